@@ -1,18 +1,19 @@
 -- Every answer can be recovered from its number (`numbers_back`): its parts have 16 bits each, whatever is lent. Assumes nothing.
+use Rattle.std.specs.Prelude.{Some}
+use Rattle.std.proofs.Common.{Result, Ok, Err}
 use Prim.Native.Nat.{ℕ}
 use native.Mathlib.Omega.{arith}
 use mathlib.Core.Path.{◌≡◌, refl, ap, ◌∙◌}
 use mathlib.Core.List.{List}
 use Rattle.rules.specs.declared.answer.Answer.{Answer}
+use Rattle.rules.specs.declared.answer.Fault.{Fault}
 use Rattle.rules.specs.declared.answer.Needs.{Needs}
-use Rattle.rules.specs.declared.answer.Needs.TheVariants.{AtMost, Refused}
 use Rattle.rules.specs.Answer.{Values, values_of, values_needed}
 use Rattle.rules.specs.Needs.{needs}
 use Rattle.rules.specs.Small.{CountsFit}
 use Rattle.rules.proofs.Bounded.{bounded_counted}
 use Rattle.rules.proofs.Counted.{all_counted}
 use Rattle.bounds.proofs.Small.{Small, needs_small}
-use Rattle.abi.specs.declared.Unpacked.TheVariants.{Answered}
 use Rattle.abi.specs.Numbers.{packed, unpacked, answer_needed}
 use Rattle.abi.specs.Back.{Recovered, NumbersBack}
 use Rattle.abi.proofs.Laws.{Fits, unpacked_packed, run_back, packed_unpacked}
@@ -22,15 +23,15 @@ recovered a h = unpacked_packed a (omega (arith, h.by_tokens, h.tokens), omega (
 
 -- ---- the bounds
 
-needed_values : (n : Needs) → values_needed n ≡ values_of (answer_needed n)
-needed_values (AtMost firings tokens) = refl
-needed_values (Refused r place) = refl
+needed_values : (n : Result Needs Fault) → values_needed n ≡ values_of (answer_needed n)
+needed_values (Ok n) = refl
+needed_values (Err fault) = refl
 
-needed_fits : (n : Needs) → Small n → Fits (answer_needed n)
-needed_fits (AtMost firings tokens) h = (omega arith, omega arith, omega arith)
-needed_fits (Refused r place) h = (omega arith, omega arith, omega arith)
+needed_fits : (n : Result Needs Fault) → Small n → Fits (answer_needed n)
+needed_fits (Ok n) h = (omega arith, omega arith, omega arith)
+needed_fits (Err fault) h = (omega arith, omega arith, omega arith)
 
-bounds_back : (graph inputs : List ℕ) → unpacked (packed (values_needed (needs graph inputs))) ≡ Answered (answer_needed (needs graph inputs))
+bounds_back : (graph inputs : List ℕ) → unpacked (packed (values_needed (needs graph inputs))) ≡ Some (answer_needed (needs graph inputs))
 bounds_back graph inputs =
     ap (λ (v : Values). unpacked (packed v)) (needed_values (needs graph inputs)) ∙ unpacked_packed (answer_needed (needs graph inputs)) (needed_fits (needs graph inputs) (needs_small graph inputs))
 

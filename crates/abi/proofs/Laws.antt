@@ -1,6 +1,7 @@
 -- The number of an answer whose firings, tokens and place have 16 bits gives the answer back, and every answer of a run is so: printing by a number prints
 -- what printing by the answer does. A number that names an answer is that answer's; and what printing answers where it writes nothing is no text's length.
 -- Assumes nothing.
+use Rattle.std.specs.Prelude.{Option, Some, None}
 use Prim.Native.Nat.{ℕ, ◌+◌, ◌*◌, ◌/◌, ◌%◌, ◌≤◌, ◌<◌}
 use native.Mathlib.Omega.{arith}
 use mathlib.Core.Path.{◌≡◌, refl, sym, ap, ◌∙◌}
@@ -24,17 +25,11 @@ use Rattle.rules.specs.Bounded.{bounded}
 use Rattle.rules.proofs.Bounded.{bounded_small}
 use Rattle.text.specs.Text.{decimal, line, outcome_fields, answer_line, token_line, cell_lines, printed, printed_of, printed_out}
 use Rattle.text.proofs.Decimals.{decimal_digit, length_more}
-use Rattle.abi.specs.declared.Numbered.{Numbered}
-use Rattle.abi.specs.declared.Numbered.TheVariants.{One, NoRefusal}
-use Rattle.abi.specs.declared.Named.{Named}
-use Rattle.abi.specs.declared.Named.TheVariants.{Ended, NoOutcome}
-use Rattle.abi.specs.declared.Unpacked.{Unpacked}
-use Rattle.abi.specs.declared.Unpacked.TheVariants.{Answered, NoAnswer}
 use Rattle.abi.specs.Numbers.{packed, refusals, refusal_with, refusal_of, unplaced, placed, outcome_numbered, unpacked, length_of, print_answer, print_after}
 
 -- ---- an answer is recovered from its number
 
-refusal_back : (r : Refusal) (place : ℕ) → outcome_numbered (number_of r) place ≡ Ended (Refused r place)
+refusal_back : (r : Refusal) (place : ℕ) → outcome_numbered (number_of r) place ≡ Some (Refused r place)
 unfolding outcome_numbered refusal_of
 refusal_back GraphLength place = refl
 refusal_back UnknownOperation place = refl
@@ -61,7 +56,7 @@ refusal_back DamagedState place = refl
 refusal_back BadExpression place = refl
 refusal_back GraphTooLong place = refl
 
-outcome_back : (o : Outcome) → outcome_numbered (word_of o) (place_in o) ≡ Ended o
+outcome_back : (o : Outcome) → outcome_numbered (word_of o) (place_in o) ≡ Some o
 unfolding outcome_numbered
 outcome_back Completed = refl
 outcome_back Hung = refl
@@ -120,7 +115,7 @@ place_part v h = omega (arith, h.0, h.1, h.2, h.3)
 abbrev pub Fits : Answer → Type 0
 Fits a = (a.firings < 65536) × (a.tokens < 65536) × (place_in a.outcome < 65536)
 
-pub unpacked_packed : (a : Answer) → Fits a → unpacked (packed (values_of a)) ≡ Answered a
+pub unpacked_packed : (a : Answer) → Fits a → unpacked (packed (values_of a)) ≡ Some a
 unfolding unpacked
 unpacked_packed a h =
     let s : Small (values_of a) = (word_small a.outcome, h.0, h.1, h.2) in
@@ -137,7 +132,7 @@ run_fits graph arrays inputs picks budget bound ledger cells =
 
 -- the number that a run answers gives its answer back
 pub run_back : (graph arrays inputs picks : List ℕ) (budget bound ledger cells : ℕ)
-    → unpacked (packed (values_of (answer (bounded graph arrays inputs picks budget bound ledger cells)))) ≡ Answered (answer (bounded graph arrays inputs picks budget bound ledger cells))
+    → unpacked (packed (values_of (answer (bounded graph arrays inputs picks budget bound ledger cells)))) ≡ Some (answer (bounded graph arrays inputs picks budget bound ledger cells))
 run_back graph arrays inputs picks budget bound ledger cells = unpacked_packed (answer (bounded graph arrays inputs picks budget bound ledger cells)) (run_fits graph arrays inputs picks budget bound ledger cells)
 
 -- ---- so printing the number that a run answers prints the answer: what text::print does with it, ttda_print does
@@ -198,41 +193,41 @@ text_least a listing cells =
 
 -- ---- a number that names an answer is that answer's: no part of it is passed over
 
-abbrev number_in : Numbered → ℕ
-number_in (One r) = number_of r
-number_in NoRefusal = 0
+abbrev number_in : Option Refusal → ℕ
+number_in (Some r) = number_of r
+number_in None = 0
 
-abbrev is_one : Numbered → ℕ
-is_one (One r) = 1
-is_one NoRefusal = 0
+abbrev is_one : Option Refusal → ℕ
+is_one (Some r) = 1
+is_one None = 0
 
-numbered : (rs : List Refusal) (n : ℕ) (r : Refusal) → refusal_with rs n ≡ One r → number_of r ≡ n
+numbered : (rs : List Refusal) (n : ℕ) (r : Refusal) → refusal_with rs n ≡ Some r → number_of r ≡ n
 numbered [] n r e =
     let z : ◌≡◌ {A = ℕ} 0 1 = ap is_one e in
     absurd (omega arith)
 numbered (x ∷ rs) n r e = go (eqb n (number_of x)) refl (λ k. numbered rs n r k)
   where
-    go : (b : Bool) → eqb n (number_of x) ≡ b → (refusal_with rs n ≡ One r → number_of r ≡ n) → number_of r ≡ n
+    go : (b : Bool) → eqb n (number_of x) ≡ b → (refusal_with rs n ≡ Some r → number_of r ≡ n) → number_of r ≡ n
     go true t k = sym (ap number_in (rw t at e)) ∙ sym (eqb-true n (number_of x) t)
     go false t k = k (rw t at e)
 
-abbrev word_in : Named → ℕ
-word_in (Ended o) = word_of o
-word_in NoOutcome = 0
+abbrev word_in : Option Outcome → ℕ
+word_in (Some o) = word_of o
+word_in None = 0
 
-abbrev place_of : Named → ℕ
-place_of (Ended o) = place_in o
-place_of NoOutcome = 0
+abbrev place_of : Option Outcome → ℕ
+place_of (Some o) = place_in o
+place_of None = 0
 
-abbrev is_ended : Named → ℕ
-is_ended (Ended o) = 1
-is_ended NoOutcome = 0
+abbrev is_ended : Option Outcome → ℕ
+is_ended (Some o) = 1
+is_ended None = 0
 
 -- the word and the place are those of the outcome
 abbrev Of : (word place : ℕ) → Outcome → Type 0
 Of w p o = (word_of o ≡ w) × (place_in o ≡ p)
 
-free : (q : Outcome) (w p : ℕ) (o : Outcome) → word_of q ≡ w → place_in q ≡ 0 → unplaced q p ≡ Ended o → Of w p o
+free : (q : Outcome) (w p : ℕ) (o : Outcome) → word_of q ≡ w → place_in q ≡ 0 → unplaced q p ≡ Some o → Of w p o
 free q w p o hw hp e = go (eqb p 0) refl
   where
     go : (b : Bool) → eqb p 0 ≡ b → Of w p o
@@ -243,14 +238,14 @@ free q w p o hw hp e = go (eqb p 0) refl
         let z : ◌≡◌ {A = ℕ} 0 1 = ap is_ended (rw t at e) in
         absurd (omega arith)
 
-refused : (x : Numbered) (w p : ℕ) (o : Outcome) → refusal_of w ≡ x → placed x p ≡ Ended o → Of w p o
+refused : (x : Option Refusal) (w p : ℕ) (o : Outcome) → refusal_of w ≡ x → placed x p ≡ Some o → Of w p o
 unfolding refusal_of
-refused (One r) w p o l e = (sym (ap word_in e) ∙ numbered refusals w r l, sym (ap place_of e))
-refused NoRefusal w p o l e =
+refused (Some r) w p o l e = (sym (ap word_in e) ∙ numbered refusals w r l, sym (ap place_of e))
+refused None w p o l e =
     let z : ◌≡◌ {A = ℕ} 0 1 = ap is_ended e in
     absurd (omega arith)
 
-named : (w p : ℕ) (o : Outcome) → outcome_numbered w p ≡ Ended o → Of w p o
+named : (w p : ℕ) (o : Outcome) → outcome_numbered w p ≡ Some o → Of w p o
 unfolding outcome_numbered
 named w p o e = go (eqb w 0) (eqb w 100) (eqb w 101) refl refl refl
   where
@@ -283,23 +278,23 @@ parts n h =
     (again (n / 65536), again (n / 4294967296), twice n, thrice n, top n h)
     (omega (arith, low n, low (n / 65536), low (n / 65536 / 65536)))
 
-abbrev answer_in : Unpacked → Answer → Answer
-answer_in (Answered a) b = a
-answer_in NoAnswer b = b
+abbrev answer_in : Option Answer → Answer → Answer
+answer_in (Some a) b = a
+answer_in None b = b
 
-abbrev is_answered : Unpacked → ℕ
-is_answered (Answered a) = 1
-is_answered NoAnswer = 0
+abbrev is_answered : Option Answer → ℕ
+is_answered (Some a) = 1
+is_answered None = 0
 
-pub packed_unpacked : (n : ℕ) (a : Answer) → n < 18446744073709551616 → unpacked n ≡ Answered a → packed (values_of a) ≡ n
+pub packed_unpacked : (n : ℕ) (a : Answer) → n < 18446744073709551616 → unpacked n ≡ Some a → packed (values_of a) ≡ n
 unfolding unpacked
 packed_unpacked n a h e = go (outcome_numbered (n % 65536) (n / 281474976710656)) refl
   where
-    go : (x : Named) → outcome_numbered (n % 65536) (n / 281474976710656) ≡ x → packed (values_of a) ≡ n
-    go (Ended o) t =
+    go : (x : Option Outcome) → outcome_numbered (n % 65536) (n / 281474976710656) ≡ x → packed (values_of a) ≡ n
+    go (Some o) t =
         let k = named _ _ o t in
         let b = ap (λ u. values_of (answer_in u a)) (rw t at e) in
         ap packed (sym b) ∙ rw (k.0, k.1) (parts n h)
-    go NoOutcome t =
+    go None t =
         let z : ◌≡◌ {A = ℕ} 0 1 = ap is_answered (rw t at e) in
         absurd (omega arith)

@@ -4,6 +4,7 @@
 
 ghost use Rattle.std.specs.Prelude.{◌≡◌, length, suc};
 ghost use Rattle.rules.specs.Answer.{place_in, values_of, values_needed};
+ghost use Rattle.rules.specs.Done.{done_number};
 ghost use Rattle.rules.specs.Needs.{needs};
 ghost use Rattle.record.specs.ExpressionRecords.{expression_of};
 ghost use Rattle.rules.specs.Expression.{graph_for, check_made, made_of, output_of, evaluated};
@@ -11,39 +12,15 @@ ghost use Rattle.rules.specs.Runs.{lent_to_run, left_by_run, lent_to_logged, lef
 ghost use Rattle.rules.specs.Bounded.{BoundedOn, BoundLoggedOn, BoundCarriedOn};
 ghost use Rattle.activities.specs.Counts.{counts};
 ghost use Rattle.plot_cache.specs.Serves.{request};
-ghost use Rattle.convert.specs.Convert.{token_rest, log_rest, converted_number as Convert·numberOf, convert_answer as Convert·answer, converted_out as Convert·outAfter};
+ghost use Rattle.convert.specs.Convert.{token_rest, log_rest, convert_answer as Convert·answer, converted_out as Convert·outAfter};
 ghost use Rattle.listing.specs.Listing.{listed_out};
 ghost use Rattle.listing.specs.Listing.{list_answer as Listing·answer};
 ghost use Rattle.abi.specs.Numbers.{packed, AsNumber, made_number, value_number, refusal_of, unplaced, outcome_numbered, unpacked, tally_number, limits_in, ServesNumber, print_answer, print_after};
 
-use activities::Tally;
-use convert::Converted;
-use listing::Listed;
 use plot_cache::{Ended, Limits};
 use rules::answer;
-use rules::answer::{Answer, Evaluated, Made, Needs, Outcome, Refusal};
-use text::Printed;
-
-// What a word says of a refusal.
-#[derive(Clone, Copy)]
-enum Numbered {
-    One(Refusal),
-    NoRefusal,
-}
-
-// What a word and a place say of an outcome.
-#[derive(Clone, Copy)]
-enum Named {
-    Ended(Outcome),
-    NoOutcome,
-}
-
-// What a number says of an answer.
-#[derive(Clone, Copy)]
-enum Unpacked {
-    Answered(Answer),
-    NoAnswer,
-}
+use rules::answer::{Answer, Outcome, Refusal};
+use text::TooSmall;
 
 fn place_of(outcome: Outcome) -> usize
     ensures { result ≡ place_in outcome }
@@ -68,51 +45,49 @@ pub fn number_of(a: Answer) -> u64
 }
 
 // The refusal with the papers' number.
-fn refusal_of(word: u64) -> Numbered
+#[tactic(auto, unfolding(crate::specs::Numbers::refusal_of))]
+fn refusal_of(word: u64) -> Option<Refusal>
     ensures { result ≡ refusal_of word }
 {
     match word {
-        1 => Numbered::One(Refusal::GraphLength),
-        2 => Numbered::One(Refusal::UnknownOperation),
-        3 => Numbered::One(Refusal::FanOut),
-        4 => Numbered::One(Refusal::BadArc),
-        5 => Numbered::One(Refusal::BadSite),
-        6 => Numbered::One(Refusal::BadInput),
-        7 => Numbered::One(Refusal::BadStore),
-        8 => Numbered::One(Refusal::LedgerFull),
-        9 => Numbered::One(Refusal::SecondToken),
-        10 => Numbered::One(Refusal::NoSuchCell),
-        11 => Numbered::One(Refusal::SecondWrite),
-        12 => Numbered::One(Refusal::OutOfRange),
-        13 => Numbered::One(Refusal::Iteration),
-        14 => Numbered::One(Refusal::TooDeep),
-        17 => Numbered::One(Refusal::NoReturn),
-        18 => Numbered::One(Refusal::ProfileFull),
-        19 => Numbered::One(Refusal::NotLoopFree),
-        20 => Numbered::One(Refusal::NotEnabled),
-        21 => Numbered::One(Refusal::BadBound),
-        22 => Numbered::One(Refusal::BadArray),
-        23 => Numbered::One(Refusal::Undecided),
-        24 => Numbered::One(Refusal::DamagedState),
-        25 => Numbered::One(Refusal::BadExpression),
-        26 => Numbered::One(Refusal::GraphTooLong),
-        _ => Numbered::NoRefusal,
+        1 => Some(Refusal::GraphLength),
+        2 => Some(Refusal::UnknownOperation),
+        3 => Some(Refusal::FanOut),
+        4 => Some(Refusal::BadArc),
+        5 => Some(Refusal::BadSite),
+        6 => Some(Refusal::BadInput),
+        7 => Some(Refusal::BadStore),
+        8 => Some(Refusal::LedgerFull),
+        9 => Some(Refusal::SecondToken),
+        10 => Some(Refusal::NoSuchCell),
+        11 => Some(Refusal::SecondWrite),
+        12 => Some(Refusal::OutOfRange),
+        13 => Some(Refusal::Iteration),
+        14 => Some(Refusal::TooDeep),
+        17 => Some(Refusal::NoReturn),
+        18 => Some(Refusal::ProfileFull),
+        19 => Some(Refusal::NotLoopFree),
+        20 => Some(Refusal::NotEnabled),
+        21 => Some(Refusal::BadBound),
+        22 => Some(Refusal::BadArray),
+        23 => Some(Refusal::Undecided),
+        24 => Some(Refusal::DamagedState),
+        25 => Some(Refusal::BadExpression),
+        26 => Some(Refusal::GraphTooLong),
+        _ => None,
     }
 }
 
 // An outcome whose place is 0.
-fn unplaced(outcome: Outcome, place: usize) -> Named
+fn unplaced(outcome: Outcome, place: usize) -> Option<Outcome>
     ensures { result ≡ unplaced outcome place }
 {
-    if place == 0 {
-        Named::Ended(outcome)
-    } else {
-        Named::NoOutcome
-    }
+    (place == 0).then_some(outcome)
 }
 
 // The outcome with a word and a place.
-fn outcome_of(word: u64, place: usize) -> Named
+#[tactic(auto, unfolding(crate::specs::Numbers::outcome_numbered))]
+fn outcome_of(word: u64, place: usize) -> Option<Outcome>
     ensures { result ≡ outcome_numbered word place }
 {
     match word {
@@ -120,31 +95,32 @@ fn outcome_of(word: u64, place: usize) -> Named
         100 => unplaced(Outcome::Spent, place),
         101 => unplaced(Outcome::Hung, place),
         _ => {
-            let numbered = refusal_of(word);
-            match numbered {
-                Numbered::One(r) => Named::Ended(Outcome::Refused(r, place)),
-                Numbered::NoRefusal => Named::NoOutcome,
-            }
+            let refusal = refusal_of(word)?;
+            Some(Outcome::Refused(refusal, place))
         }
     }
 }
 
+// 0 where it is done, and else the number of the refusal.
+fn done_number(done: Result<(), Refusal>) -> u64
+    ensures { result ≡ done_number done }
+{
+    match done {
+        Ok(()) => 0,
+        Err(refusal) => u64::from(answer::number(refusal)),
+    }
+}
+
 // The answer that `number_of` made a number of.
-fn unpack(number: u64) -> Unpacked
+#[tactic(auto, unfolding(crate::specs::Numbers::unpacked))]
+fn unpack(number: u64) -> Option<Answer>
     ensures { result ≡ unpacked number }
 {
     let firings = (number / 65536 % 65536) as usize;
     let tokens = (number / 4294967296 % 65536) as usize;
     let place = (number / 281474976710656) as usize;
-    let named = outcome_of(number % 65536, place);
-    match named {
-        Named::Ended(outcome) => Unpacked::Answered(Answer {
-            outcome,
-            firings,
-            tokens,
-        }),
-        Named::NoOutcome => Unpacked::NoAnswer,
-    }
+    let outcome = outcome_of(number % 65536, place)?;
+    Some(answer::answered(outcome, firings, tokens))
 }
 
 pub fn ttda_run(
@@ -224,18 +200,13 @@ pub fn ttda_replay(
 pub fn ttda_bounds(graph: &[u8], inputs: &[u8]) -> u64
     ensures { result ≡ packed (values_needed (needs graph.now inputs.now)) }
 {
-    let needs = bounds::bounds(graph, inputs);
-    match needs {
-        Needs::AtMost { firings, tokens } => number_of(Answer {
+    match bounds::bounds(graph, inputs) {
+        Ok(needs) => number_of(Answer {
             outcome: Outcome::Completed,
-            firings,
-            tokens,
+            firings: needs.firings,
+            tokens: needs.tokens,
         }),
-        Needs::Refused(r, place) => number_of(Answer {
-            outcome: Outcome::Refused(r, place),
-            firings: 0,
-            tokens: 0,
-        }),
+        Err(fault) => number_of(answer::refused(fault)),
     }
 }
 
@@ -243,23 +214,21 @@ pub fn ttda_expression(expression: &[u8], graph: &mut [u8]) -> u64
     ensures value { result ≡ packed (made_number (made_of (check_made expression.now (length graph.old)) (suc (length (expression_of expression.now))))) }
     ensures graph_after { graph.new ≡ output_of (check_made expression.now (length graph.old)) (graph_for (expression_of expression.now)) graph.old }
 {
-    let made = expression::to_graph(expression, graph);
-    match made {
-        Made::Records(records) => number_of(Answer {
+    match expression::to_graph(expression, graph) {
+        Ok(records) => number_of(Answer {
             outcome: Outcome::Completed,
             firings: records,
             tokens: 0,
         }),
-        Made::Refused(r, place) => number_of(answer::refused(r, place)),
+        Err(fault) => number_of(answer::refused(fault)),
     }
 }
 
 pub fn ttda_expression_value(expression: &[u8], values: &[u8]) -> u64
     ensures { result ≡ packed (value_number (evaluated expression.now values.now)) }
 {
-    let evaluated = expression::value(expression, values);
-    match evaluated {
-        Evaluated::Value(v) => {
+    match expression::value(expression, values) {
+        Ok(v) => {
             let bits = number::bits(v);
             number_of(Answer {
                 outcome: Outcome::Completed,
@@ -267,18 +236,15 @@ pub fn ttda_expression_value(expression: &[u8], values: &[u8]) -> u64
                 tokens: (bits / 65536) as usize,
             })
         }
-        Evaluated::Refused(r, place) => number_of(answer::refused(r, place)),
+        Err(fault) => number_of(answer::refused(fault)),
     }
 }
 
+#[tactic(auto, unfolding(listing::specs::Listing::list_answer))]
 pub fn ttda_list(ledger: &[u8], out: &mut [u8]) -> u64
     ensures { (result ≡ Listing·answer ledger.now out.old) × (out.new ≡ listed_out ledger.now out.old) }
 {
-    let listed = listing::list(ledger, out);
-    match listed {
-        Listed::Done => 0,
-        Listed::BadStore => 7,
-    }
+    done_number(listing::list(ledger, out))
 }
 
 // How many activities a bound holds back in a saved state, and how many are enabled in all.
@@ -292,18 +258,18 @@ pub fn ttda_held(
 ) -> u64
     ensures { result ≡ packed (tally_number (counts graph.now bound firings tokens ledger.now cells.now)) }
 {
-    let tally = activities::count(graph, bound, firings, tokens, ledger, cells);
-    match tally {
-        Tally::Found { enabled, held } => number_of(Answer {
+    match activities::count(graph, bound, firings, tokens, ledger, cells) {
+        Ok(tally) => number_of(Answer {
             outcome: Outcome::Completed,
-            firings: held,
-            tokens: enabled,
+            firings: tally.held,
+            tokens: tally.enabled,
         }),
-        Tally::Refused(r, place) => number_of(answer::refused(r, place)),
+        Err(fault) => number_of(answer::refused(fault)),
     }
 }
 
 // Budget, bound, and the lengths in bytes of ledger and cells.
+#[tactic(auto, unfolding(crate::specs::Numbers::limits_in))]
 fn limits_in(numbers: &[u64; 4]) -> Limits
     ensures { result ≡ limits_in numbers.now }
 {
@@ -335,7 +301,7 @@ pub fn ttda_serves(
         kept_answer kept_held
         (request graph.now arrays.now inputs.now picks.now (limits_in limits.now)) result }
 {
-    let Unpacked::Answered(answer) = unpack(kept_answer) else {
+    let Some(answer) = unpack(kept_answer) else {
         return 0;
     };
     let end = Ended {
@@ -363,38 +329,31 @@ pub fn ttda_serves(
     }
 }
 
-fn converted_number(converted: Converted) -> u64
-    ensures { result ≡ Convert·numberOf converted }
-{
-    match converted {
-        Converted::Done => 0,
-        Converted::BadStore => 7,
-    }
-}
-
+#[tactic(auto, unfolding(convert::specs::Convert::convert_answer))]
 pub fn ttda_convert(old: &[u8], out: &mut [u8]) -> u64
     ensures value { result ≡ Convert·answer token_rest old.now out.old }
     ensures out_after { out.new ≡ Convert·outAfter token_rest old.now out.old }
 {
-    converted_number(convert::convert(old, out))
+    done_number(convert::convert(old, out))
 }
 
+#[tactic(auto, unfolding(convert::specs::Convert::convert_answer))]
 pub fn ttda_convert_log(old: &[u8], out: &mut [u8]) -> u64
     ensures value { result ≡ Convert·answer log_rest old.now out.old }
     ensures out_after { out.new ≡ Convert·outAfter log_rest old.now out.old }
 {
-    converted_number(convert::convert_log(old, out))
+    done_number(convert::convert_log(old, out))
 }
 
 pub fn ttda_print(answer: u64, listing: &[u8], cells: &[u8], out: &mut [u8]) -> u64
     ensures value { result ≡ print_answer (unpacked answer) listing.now cells.now out.old }
     ensures out_after { out.new ≡ print_after (unpacked answer) listing.now cells.now out.old }
 {
-    let Unpacked::Answered(a) = unpack(answer) else {
+    let Some(a) = unpack(answer) else {
         return 1;
     };
     match text::print(a, listing, cells, out) {
-        Printed::Done(n) => n as u64,
-        Printed::TooSmall => 0,
+        Ok(n) => n as u64,
+        Err(TooSmall) => 0,
     }
 }

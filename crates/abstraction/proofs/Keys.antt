@@ -22,8 +22,8 @@ use Rattle.machine.proofs.View.{when_yes, when_no, false_true, key_path}
 use Rattle.rules.specs.Check.{any, second_input}
 use Rattle.rules.specs.InstructionSet.{machine_of}
 use Rattle.rules.specs.Run.{content_held, token_held}
-use Rattle.store_chains.specs.declared.Found.{Found}
-use Rattle.store_chains.specs.declared.Found.TheVariants.{At, Nothing}
+use Rattle.std.specs.Prelude.{Some, None}
+use Rattle.std.specs.Prelude as Std
 use Rattle.store_chains.specs.Search.{first_from, Free}
 use Rattle.store_chains.proofs.Search.{shift, first_cons}
 use Rattle.store_chains.proofs.Index.{and_left, and_right}
@@ -71,9 +71,9 @@ module _ {A : Type 0} (p : A → Bool) (d : A) where
   Fails ts = (j : ℕ) → j < length ts → p (get_or ts j d) ≡ false
 
   -- what the answer of a search says
-  abbrev pub Says : Found → List A → Type 0
-  Says (At i) ts = First i ts
-  Says Nothing ts = Fails ts
+  abbrev pub Says : Std.Option ℕ → List A → Type 0
+  Says (Some i) ts = First i ts
+  Says None ts = Fails ts
 
   below_cons : (n : ℕ) (t : A) (ts : List A) → p t ≡ false → ((j : ℕ) → j < n → p (get_or ts j d) ≡ false)
       → (j : ℕ) → j < suc n → p (get_or (t ∷ ts) j d) ≡ false
@@ -84,16 +84,16 @@ module _ {A : Type 0} (p : A → Bool) (d : A) where
   search_says [] = λ j h. absurd (not-suc-le-zero h)
   search_says (t ∷ ts) = rw (first_cons p t ts) (go (p t) refl (first_from p 0 ts) (search_says ts))
     where
-      go : (b : Bool) → p t ≡ b → (f : Found) → Says f ts → Says (cond b (At 0) (shift f)) (t ∷ ts)
+      go : (b : Bool) → p t ≡ b → (f : Std.Option ℕ) → Says f ts → Says (cond b (Some 0) (shift f)) (t ∷ ts)
       go true e f s = record { within = omega arith; passes = e; earlier = λ j h. absurd (not-suc-le-zero h) }
-      go false e (At i) s = record { within = let h = s.within in omega arith; passes = s.passes; earlier = below_cons i t ts e s.earlier }
-      go false e Nothing s = below_cons (length ts) t ts e s
+      go false e (Some i) s = record { within = let h = s.within in omega arith; passes = s.passes; earlier = below_cons i t ts e s.earlier }
+      go false e None s = below_cons (length ts) t ts e s
 
-  pub search_at : (i : ℕ) (ts : List A) → first_from p 0 ts ≡ At i → First i ts
-  search_at i ts e = subst (λ (f : Found). Says f ts) e (search_says ts)
+  pub search_at : (i : ℕ) (ts : List A) → first_from p 0 ts ≡ Some i → First i ts
+  search_at i ts e = subst (λ (f : Std.Option ℕ). Says f ts) e (search_says ts)
 
-  pub search_nothing : (ts : List A) → first_from p 0 ts ≡ Nothing → Fails ts
-  search_nothing ts e = subst (λ (f : Found). Says f ts) e (search_says ts)
+  pub search_nothing : (ts : List A) → first_from p 0 ts ≡ None → Fails ts
+  search_nothing ts e = subst (λ (f : Std.Option ℕ). Says f ts) e (search_says ts)
 
 -- ---- the token at a port of a tag
 
@@ -105,7 +105,7 @@ pub record StandsFirst (tag : Tag) (port i : ℕ) (ts : List Record.Token) (d : 
   pub that_port : (get_or ts i d).port ≡ port
   pub earlier : (j : ℕ) → j < i → stands_at tag port (get_or ts j d) ≡ false
 
-pub found_stands : (tag : Tag) (port i : ℕ) (ts : List Record.Token) (d : Record.Token) → first_from (stands_at tag port) 0 ts ≡ At i
+pub found_stands : (tag : Tag) (port i : ℕ) (ts : List Record.Token) (d : Record.Token) → first_from (stands_at tag port) 0 ts ≡ Some i
     → StandsFirst tag port i ts d
 found_stands tag port i ts d e =
     let s = search_at (stands_at tag port) d i ts e in
@@ -117,15 +117,15 @@ found_stands tag port i ts d e =
       earlier = s.earlier;
     }
 
-pub none_stands : (tag : Tag) (port : ℕ) (ts : List Record.Token) (d : Record.Token) → first_from (stands_at tag port) 0 ts ≡ Nothing
+pub none_stands : (tag : Tag) (port : ℕ) (ts : List Record.Token) (d : Record.Token) → first_from (stands_at tag port) 0 ts ≡ None
     → (j : ℕ) → j < length ts → stands_at tag port (get_or ts j d) ≡ false
 none_stands tag port ts d e = search_nothing (stands_at tag port) d ts e
 
-pub any_nothing : {A : Type 0} (p : A → Bool) (i : ℕ) (ts : List A) → any p ts ≡ false → first_from p i ts ≡ Nothing
+pub any_nothing : {A : Type 0} (p : A → Bool) (i : ℕ) (ts : List A) → any p ts ≡ false → first_from p i ts ≡ None
 any_nothing p i [] e = refl
 any_nothing p i (t ∷ ts) e = go (p t) e (any_nothing p (suc i) ts)
   where
-    go : (b : Bool) → b || any p ts ≡ false → (any p ts ≡ false → first_from p (suc i) ts ≡ Nothing) → cond b (At i) (first_from p (suc i) ts) ≡ Nothing
+    go : (b : Bool) → b || any p ts ≡ false → (any p ts ≡ false → first_from p (suc i) ts ≡ None) → cond b (Some i) (first_from p (suc i) ts) ≡ None
     go true e ih = false_true (sym e)
     go false e ih = ih e
 
@@ -135,13 +135,13 @@ unfolding second_input
 alone_free earlier t e = any_nothing (stands_at t.tag t.port) 0 earlier e
 
 -- the content of the token that a search found
-abbrev pub found_content : (d : Record.Token) → List Record.Token → Found → Option (Content ℤ)
-found_content d ts (At i) = some (content_held (get_or ts i d).content)
-found_content d ts Nothing = none
+abbrev pub found_content : (d : Record.Token) → List Record.Token → Std.Option ℕ → Option (Content ℤ)
+found_content d ts (Some i) = some (content_held (get_or ts i d).content)
+found_content d ts None = none
 
-found_cons : (d t : Record.Token) (ts : List Record.Token) (f : Found) → found_content d ts f ≡ found_content d (t ∷ ts) (shift f)
-found_cons d t ts (At i) = refl
-found_cons d t ts Nothing = refl
+found_cons : (d t : Record.Token) (ts : List Record.Token) (f : Std.Option ℕ) → found_content d ts f ≡ found_content d (t ∷ ts) (shift f)
+found_cons d t ts (Some i) = refl
+found_cons d t ts None = refl
 
 module _ (g : List Instruction) (table : List NamedArray) (capacity cells : ℕ) where
   abbrev M : Machine
@@ -163,6 +163,6 @@ module _ (g : List Instruction) (table : List NamedArray) (capacity cells : ℕ)
     where
       go : (b : Bool) → find M (record { tag = tag; port = port }) (map token_held ts) ≡ found_content d ts (first_from (stands_at tag port) 0 ts)
           → cond b (some (content_held t.content)) (find M (record { tag = tag; port = port }) (map token_held ts))
-          ≡ found_content d (t ∷ ts) (cond b (At 0) (shift (first_from (stands_at tag port) 0 ts)))
+          ≡ found_content d (t ∷ ts) (cond b (Some 0) (shift (first_from (stands_at tag port) 0 ts)))
       go true ih = refl
       go false ih = ih ∙ found_cons d t ts (first_from (stands_at tag port) 0 ts)

@@ -1,4 +1,5 @@
 -- What is held back and what is free are all that is enabled, and the flags count them. Assumes nothing.
+use Rattle.std.proofs.Common.{Ok, Err}
 use Prim.Native.Nat.{ℕ, ◌+◌, ◌-◌, ◌/◌, ◌≤◌}
 use mathlib.Core.Path.{◌≡◌, refl, sym, ap, ◌∙◌}
 use mathlib.Core.Bool.{Bool, true, false, not, cond}
@@ -15,15 +16,14 @@ use Rattle.record.specs.Widths.{cell_width}
 use Rattle.buffer.specs.Rows.{all_rows}
 use Rattle.machine.specs.Machine.{Machine, StateOf, Activity, enabled}
 use Rattle.machine.specs.Bounded.{without_held, free_of}
-use Rattle.rules.specs.declared.answer.Refusal.{Refusal}
+use Rattle.rules.specs.declared.answer.Fault.{Fault}
 use Rattle.rules.specs.declared.answer.Refusal.TheVariants.{DamagedState}
-use Rattle.rules.specs.declared.answer.Checked.TheVariants.{Passed, Failed}
-use Rattle.rules.specs.Check.{check_graph, check_stores}
+use Rattle.rules.specs.Check.{check_graph, check_stores, fault_at}
 use Rattle.rules.specs.InstructionSet.{machine_of}
 use Rattle.rules.specs.Held.{held_in}
 use Rattle.rules.specs.Bounded.{and_bound}
 use Rattle.rules.specs.Saved.{state_saved, machine_saved, state_taken}
-use Rattle.store_flags.specs.Flags.{places, minus, flags_of, Under}
+use Rattle.store_flags.specs.Flags.{places, minus, Under}
 use Rattle.store.proofs.Laws.{matching_places}
 use Rattle.abstraction.specs.States.{no_token, state_held}
 use Rattle.abstraction.proofs.Enabled.{held_enabled}
@@ -33,8 +33,7 @@ use Rattle.fire.specs.Running.{Prepared, Running}
 use Rattle.fire.proofs.Place.{on_ports}
 use Rattle.held.specs.Deciding.{HeldDecided}
 use Rattle.held.proofs.Free.{held_under, free_places}
-use Rattle.activities.specs.declared.Tally.TheVariants.{Found, Refused}
-use Rattle.activities.specs.Counts.{enabled_in, held_back_in, count_lent_checked, counted, counts}
+use Rattle.activities.specs.Counts.{enabled_in, held_back_in, count_lent_checked, counted, counts, tally_of}
 use Rattle.activities.specs.Ready.{LentToCount, ReadyToCount}
 
 -- ---- of any list
@@ -65,19 +64,19 @@ module _ (graph : List ℕ) {tables flags ledger : List ℕ} {used : ℕ} (r : R
   abbrev activity : ℕ → Activity Tag
   activity p = record { place = p; tag = (get_or (tokens used ledger) p no_token).tag }
 
-  pub flags_enabled : length (places (flags_of flags)) ≡ length (enabled M₀ s₀)
+  pub flags_enabled : length (places flags) ≡ length (enabled M₀ s₀)
   flags_enabled =
       let e = held_enabled (graph_of graph) table capacity count tables (tokens used ledger) cs no_token r.prepared.arities_right (on_ports (graph_of graph) (tokens used ledger) r.running.arrived) in
-      sym (ap length (e ∙ ap (map activity) (sym (matching_places r.running.matching))) ∙ length-map (places (flags_of flags)) activity)
+      sym (ap length (e ∙ ap (map activity) (sym (matching_places r.running.matching))) ∙ length-map (places flags) activity)
 
   module _ (k : ℕ) (held : List ℕ) (d : HeldDecided (graph_of graph) k flags held ledger used) where
-    pub flags_under : Under (flags_of held) (flags_of flags)
+    pub flags_under : Under held flags
     flags_under = held_under (graph_of graph) table capacity count k tables r.links flags held ledger used cs r.prepared.arities_right (on_ports (graph_of graph) (tokens used ledger) r.running.arrived) r.running.matching d
 
-    pub flags_free : length (places (minus (flags_of flags) (flags_of held))) ≡ length (free_of M₀ (held_in (graph_of graph) k) s₀)
+    pub flags_free : length (places (minus flags held)) ≡ length (free_of M₀ (held_in (graph_of graph) k) s₀)
     flags_free =
         sym (ap length (free_places (graph_of graph) table capacity count k tables r.links flags held ledger used cs r.prepared.arities_right (on_ports (graph_of graph) (tokens used ledger) r.running.arrived) r.running.matching d)
-        ∙ length-map (places (minus (flags_of flags) (flags_of held))) activity)
+        ∙ length-map (places (minus flags held)) activity)
 
 -- ---- of a state that is taken
 
@@ -85,13 +84,13 @@ pub ready : {graph tables links flags ledger cells : List ℕ} {used : ℕ} → 
 ready {links = links} {cells = cells} p r = record { prepared = p; links = links; cells = cells; running = r }
 
 module _ (graph : List ℕ) {tables flags ledger : List ℕ} {used : ℕ} (r : ReadyToCount graph tables flags ledger used) (cells : List ℕ) where
-  pub found_enabled : length (places (flags_of flags)) ≡ enabled_in graph ledger cells used
+  pub found_enabled : length (places flags) ≡ enabled_in graph ledger cells used
   unfolding state_saved
   found_enabled = flags_enabled graph r [] (capacity_of (length ledger)) (length cells / cell_width) (all_rows cell_width Cells.decode_cell cells)
 
   module _ (k free : ℕ)
       (told : (table : List NamedArray) (capacity count : ℕ) (cs : List Cell) → free ≡ length (free_of (machine_of (graph_of graph) table capacity count) (held_in (graph_of graph) k) (state_held (tokens used ledger) cs))) where
-    all_counted : held_back_in graph k ledger cells used + free ≡ length (places (flags_of flags))
+    all_counted : held_back_in graph k ledger cells used + free ≡ length (places flags)
     unfolding state_saved
     all_counted =
         let M = machine_saved graph [] ledger cells in
@@ -100,10 +99,10 @@ module _ (graph : List ℕ) {tables flags ledger : List ℕ} {used : ℕ} (r : R
         let f = flags_enabled graph r [] (capacity_of (length ledger)) (length cells / cell_width) (all_rows cell_width Cells.decode_cell cells) in
         ap (λ (n : ℕ). held_back_in graph k ledger cells used + n) e ∙ both_ways M (held_in (graph_of graph) k s) (enabled M s) ∙ sym f
 
-    pub free_few : free ≤ length (places (flags_of flags))
+    pub free_few : free ≤ length (places flags)
     free_few = omega (arith, all_counted)
 
-    pub found_held : length (places (flags_of flags)) - free ≡ held_back_in graph k ledger cells used
+    pub found_held : length (places flags) - free ≡ held_back_in graph k ledger cells used
     found_held = omega (arith, all_counted)
 
 pub found_none : (graph ledger cells : List ℕ) (used : ℕ) → 0 ≡ held_back_in graph 0 ledger cells used
@@ -115,28 +114,28 @@ found_none graph ledger cells used =
 -- ---- what is answered
 
 module _ (graph ledger cells : List ℕ) (k firings n : ℕ) where
-  pub is_counted : true ≡ state_taken graph ledger cells firings n → (e h : ℕ) → e ≡ enabled_in graph ledger cells n → h ≡ held_back_in graph k ledger cells n → Found e h ≡ counted graph k firings n ledger cells
+  pub is_counted : true ≡ state_taken graph ledger cells firings n → (e h : ℕ) → e ≡ enabled_in graph ledger cells n → h ≡ held_back_in graph k ledger cells n → tally_of e h ≡ counted graph k firings n ledger cells
   unfolding counted
-  is_counted t e h a b = rw (← t) (λ i. Found (a i) (b i))
+  is_counted t e h a b = rw (← t) (λ i. tally_of (a i) (b i))
 
-  pub is_damaged : false ≡ state_taken graph ledger cells firings n → Refused DamagedState 0 ≡ counted graph k firings n ledger cells
+  pub is_damaged : false ≡ state_taken graph ledger cells firings n → Err (fault_at DamagedState 0) ≡ counted graph k firings n ledger cells
   unfolding counted
   is_damaged t = rw (← t)
 
-  whole_stores : and_bound (check_stores 0 0 (length ledger) (length cells)) k ≡ Passed → check_stores 0 0 (length ledger) (length cells) ≡ Passed
+  whole_stores : and_bound (check_stores 0 0 (length ledger) (length cells)) k ≡ Ok tt → check_stores 0 0 (length ledger) (length cells) ≡ Ok tt
   unfolding and_bound
   whole_stores e = (both-passed (check_stores 0 0 (length ledger) (length cells)) _ e).0
 
-  pub is_lent : count_lent_checked graph k (length ledger) (length cells) ≡ Passed → LentToCount graph (length ledger) (length cells)
+  pub is_lent : count_lent_checked graph k (length ledger) (length cells) ≡ Ok tt → LentToCount graph (length ledger) (length cells)
   is_lent e =
       let (g, later) = both-passed (check_graph graph) _ e in
       let stores = passed_stores 0 0 (length ledger) (length cells) (whole_stores later) in
       record { graph_passed = g; few = stores.token_records.1; cell_records = stores.cell_records }
 
-  pub lent_counts : count_lent_checked graph k (length ledger) (length cells) ≡ Passed → counted graph k firings n ledger cells ≡ counts graph k firings n ledger cells
+  pub lent_counts : count_lent_checked graph k (length ledger) (length cells) ≡ Ok tt → counted graph k firings n ledger cells ≡ counts graph k firings n ledger cells
   unfolding counts
   lent_counts e = rw e
 
-  pub lent_fails : (r : Refusal) (p : ℕ) → count_lent_checked graph k (length ledger) (length cells) ≡ Failed r p → Refused r p ≡ counts graph k firings n ledger cells
+  pub lent_fails : {fault : Fault} → count_lent_checked graph k (length ledger) (length cells) ≡ Err fault → Err fault ≡ counts graph k firings n ledger cells
   unfolding counts
-  lent_fails r p e = rw e
+  lent_fails e = rw e

@@ -1,5 +1,6 @@
 -- Which hang it was, proved: in what a run with a bound left, all that is enabled is held back, and nothing is exactly where it completed or hung with nothing held
 -- (`which_hang`). Assumes nothing.
+use Rattle.std.proofs.Common.{Ok}
 use Prim.Native.Nat.{ℕ, ◌+◌, ◌/◌, ◌≤◌}
 use mathlib.Core.Path.{◌≡◌, refl, sym, ap, subst, ◌∙◌}
 use mathlib.Core.Bool.{true, false}
@@ -29,9 +30,7 @@ use Rattle.machine.proofs.Bounded.{only_held, proper_rests, bounded_logged, Says
 use Rattle.rules.specs.declared.answer.Refusal.{Refusal}
 use Rattle.rules.specs.declared.answer.Refusal.TheVariants.{BadBound}
 use Rattle.rules.specs.declared.answer.Answer.{Answer}
-use Rattle.rules.specs.declared.answer.Checked.{Checked}
-use Rattle.rules.specs.declared.answer.Checked.TheVariants.{Passed}
-use Rattle.rules.specs.Check.{demand, check_stores, check_arrays, most_cells}
+use Rattle.rules.specs.Check.{demand, check_stores, check_arrays, most_cells, Checked}
 use Rattle.rules.specs.InstructionSet.{machine_of}
 use Rattle.rules.specs.Run.{token_record, cell_record, first_state, picks_of, Result, ran_to, outcome_of, answer, ledger_after, cells_after}
 use Rattle.rules.specs.Runs.{outcome_in}
@@ -44,8 +43,7 @@ use Rattle.rules.proofs.Accepted.{whole_bytes, stores_whole, Accepted, accepted,
 use Rattle.rules.proofs.Saved.{Resumable, resumable_reached, resumable_start, resumed, taken_again}
 use Rattle.rules.proofs.Written.{Rooms, ledger_size, cells_size}
 use Rattle.rules.proofs.Outcomes.{outcome_back}
-use Rattle.activities.specs.declared.Tally.TheVariants.{Found}
-use Rattle.activities.specs.Counts.{held_of, enabled_in, held_back_in, count_lent_checked, counts}
+use Rattle.activities.specs.Counts.{held_of, enabled_in, held_back_in, count_lent_checked, counts, tally_of}
 use Rattle.activities.specs.Hangs.{held_left, TellsHang, WhichHang}
 use Rattle.activities.proofs.Counting.{both_ways, is_counted, lent_counts}
 
@@ -146,7 +144,7 @@ module _ (graph arrays inputs : List ℕ) (graph_bytes : Bytes graph) (input_byt
   is_taken_lem : state_taken graph ledger' cells' e.firings (length e.state.tokens) ≡ true
   is_taken_lem = taken_again graph graph_bytes a.graph_passed table capacity count few e.firings e.state goes ledger cells room refl refl
 
-  passes : count_lent_checked graph k (length ledger') (length cells') ≡ Passed
+  passes : count_lent_checked graph k (length ledger') (length cells') ≡ Ok tt
   unfolding and_bound check_stores
   passes = rw (a.graph_passed, ledger_size e.state ledger cells room, cells_size e.state ledger cells room, whole_ledger, whole_cells, bound)
 
@@ -154,7 +152,7 @@ module _ (graph arrays inputs : List ℕ) (graph_bytes : Bytes graph) (input_byt
       × (length (held_of M (held_in (graph_of graph) k) e.state) ≡ 0 ↔ NoneHeld M (held_in (graph_of graph) k) e.state e.outcome)
   said h = tells M (held_in (graph_of graph) k) e.state e.outcome budget (length log) (subst Quiescent (outcome_back e.outcome) h) ran.says
 
-  finds : Quiescent (outcome_in (outcome_of e.outcome)) → counts graph k e.firings (length e.state.tokens) ledger' cells' ≡ Found (held_back_in graph k ledger' cells' (length e.state.tokens)) (held_back_in graph k ledger' cells' (length e.state.tokens))
+  finds : Quiescent (outcome_in (outcome_of e.outcome)) → counts graph k e.firings (length e.state.tokens) ledger' cells' ≡ tally_of (held_back_in graph k ledger' cells' (length e.state.tokens)) (held_back_in graph k ledger' cells' (length e.state.tokens))
   finds h =
       sym (is_counted graph ledger' cells' k e.firings (length e.state.tokens) (sym is_taken_lem) _ _ (held_back ∙ (said h).0 ∙ sym enabled_back) refl
       ∙ lent_counts graph ledger' cells' k e.firings (length e.state.tokens) passes)
@@ -169,7 +167,7 @@ module _ (graph arrays inputs : List ℕ) (graph_bytes : Bytes graph) (input_byt
 
 -- a result, and what it leaves
 record Tells (graph arrays : List ℕ) (k : ℕ) (ledger cells : List ℕ) (z : Result) : Type 0 where
-  found : counts graph k (answer z).firings (answer z).tokens (ledger_after z ledger) (cells_after z cells) ≡ Found (held_left graph k (left_by z ledger cells)) (held_left graph k (left_by z ledger cells))
+  found : counts graph k (answer z).firings (answer z).tokens (ledger_after z ledger) (cells_after z cells) ≡ tally_of (held_left graph k (left_by z ledger cells)) (held_left graph k (left_by z ledger cells))
   none : Completed (outcome_in (answer z).outcome) → held_left graph k (left_by z ledger cells) ≡ 0
   exactly : held_left graph k (left_by z ledger cells) ≡ 0 ↔ LeavesNoneHeld graph arrays k (length ledger) (length cells) z
 
@@ -177,7 +175,7 @@ module _ (graph arrays inputs : List ℕ) (graph_bytes : Bytes graph) (input_byt
   abbrev stores : Checked
   stores = check_stores (length inputs) (length picks) (length ledger) (length cells)
 
-  parts : check_bounded graph arrays inputs picks k (length ledger) (length cells) ≡ Passed → (stores ≡ Passed) × (good_bound k ≡ true) × Accepted graph inputs (capacity_of (length ledger))
+  parts : check_bounded graph arrays inputs picks k (length ledger) (length cells) ≡ Ok tt → (stores ≡ Ok tt) × (good_bound k ≡ true) × Accepted graph inputs (capacity_of (length ledger))
   unfolding check_bounded and_bound
   parts e =
       let (p, (n, a)) = accepted graph inputs (capacity_of (length ledger)) (and_bound stores k) (check_arrays (graph_of graph) (length cells / cell_width) arrays) e in

@@ -1,17 +1,15 @@
 -- 02, R-9: the activities of a saved state that are enabled, and those of them that a bound holds back, counted. `count` promises `counts`. Assumes nothing.
-use Rattle.std.specs.Prelude.{ℕ, not, List, [], length}
+use Rattle.std.specs.Prelude.{ℕ, not, List, [], length, Result, Ok}
 use Rattle.record.specs.GraphRecords.{graph_of}
 use Rattle.machine.specs.Machine.{Machine, StateOf, Activity, enabled}
 use Rattle.machine.specs.Bounded.{Held, without_held}
-use Rattle.rules.specs.declared.answer.Checked.{Checked}
-use Rattle.rules.specs.declared.answer.Checked.TheVariants.{Passed, Failed}
+use Rattle.rules.specs.declared.answer.Fault.{Fault}
 use Rattle.rules.specs.declared.answer.Refusal.TheVariants.{DamagedState}
-use Rattle.rules.specs.Check.{demand, ◌and_then◌, check_graph, check_stores}
+use Rattle.rules.specs.Check.{demand, ◌and_then◌, check_graph, check_stores, Checked}
 use Rattle.rules.specs.Bounded.{and_bound}
 use Rattle.rules.specs.Held.{held_in}
 use Rattle.rules.specs.Saved.{state_saved, machine_saved, state_taken}
 use Rattle.activities.specs.declared.Tally.{Tally}
-use Rattle.activities.specs.declared.Tally.TheVariants.{Found, Refused}
 
 -- ---- of a state
 
@@ -31,14 +29,14 @@ held_back_in graph k ledger cells n = length (held_of (machine_saved graph [] le
 abbrev pub count_lent_checked : (graph : List ℕ) → (bound ledger cells : ℕ) → Checked
 count_lent_checked graph k ledger cells = check_graph graph and_then and_bound (check_stores 0 0 ledger cells) k
 
-abbrev pub tally_unless_refused : Checked → Tally → Tally
-tally_unless_refused Passed t = t
-tally_unless_refused (Failed r place) t = Refused r place
+abbrev pub tally_of : (enabled held : ℕ) → Result Tally Fault
+tally_of enabled held = Ok (record { enabled = enabled; held = held })
 
 -- once graph and stores passed their checks
-unfoldable pub counted : (graph : List ℕ) → (bound firings tokens : ℕ) → (ledger cells : List ℕ) → Tally
+unfoldable pub counted : (graph : List ℕ) → (bound firings tokens : ℕ) → (ledger cells : List ℕ) → Result Tally Fault
 counted graph k firings n ledger cells =
-    tally_unless_refused (demand (state_taken graph ledger cells firings n) DamagedState 0) (Found (enabled_in graph ledger cells n) (held_back_in graph k ledger cells n))
+    demand (state_taken graph ledger cells firings n) DamagedState 0
+    and_then tally_of (enabled_in graph ledger cells n) (held_back_in graph k ledger cells n)
 
-unfoldable pub counts : (graph : List ℕ) → (bound firings tokens : ℕ) → (ledger cells : List ℕ) → Tally
-counts graph k firings n ledger cells = tally_unless_refused (count_lent_checked graph k (length ledger) (length cells)) (counted graph k firings n ledger cells)
+unfoldable pub counts : (graph : List ℕ) → (bound firings tokens : ℕ) → (ledger cells : List ℕ) → Result Tally Fault
+counts graph k firings n ledger cells = count_lent_checked graph k (length ledger) (length cells) and_then counted graph k firings n ledger cells

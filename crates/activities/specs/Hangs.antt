@@ -5,8 +5,7 @@ use Rattle.number.specs.Number.{Bytes}
 use Rattle.machine.specs.Orders.{Completed, Quiescent}
 use Rattle.rules.specs.Runs.{LentToRun, LeftByRun, outcome_in}
 use Rattle.rules.specs.Bounded.{bounded, LeavesNoneHeld, BoundedOn}
-use Rattle.activities.specs.declared.Tally.TheVariants.{Found}
-use Rattle.activities.specs.Counts.{held_back_in, counts}
+use Rattle.activities.specs.Counts.{held_back_in, counts, tally_of}
 
 -- how many activities the bound of a run holds back in what it left
 abbrev pub held_left : (graph : List ℕ) → (bound : ℕ) → LeftByRun → ℕ
@@ -15,7 +14,7 @@ held_left graph k x = held_back_in graph k x.ledger x.cells x.answer.tokens
 -- of a run that completed or hung
 pub record TellsHang (graph arrays inputs : List ℕ) (budget k : ℕ) (l : LentToRun) (x : LeftByRun) : Type 0 where
   -- what it left is taken, and all activities that are enabled there are held back
-  pub found : counts graph k x.answer.firings x.answer.tokens x.ledger x.cells ≡ Found (held_left graph k x) (held_left graph k x)
+  pub found : counts graph k x.answer.firings x.answer.tokens x.ledger x.cells ≡ tally_of (held_left graph k x) (held_left graph k x)
   -- there are none where it completed
   pub completed : Completed (outcome_in x.answer.outcome) → held_left graph k x ≡ 0
   -- and none exactly if it "completes, or hangs with no held activity left"

@@ -14,25 +14,22 @@ ghost use Rattle.activities.specs.Counts.{count_lent_checked, counted, counts};
 ghost use Rattle.activities.specs.Ready.{LentToCount, ReadyToCount};
 
 use checks::{bound, graph, stores};
-use rules::answer::{Checked, Refusal};
+use rules::answer::{Fault, Refusal};
 use store_enabled::Tables;
-use store_flags::Flags;
+use store_flags::{Flags, Free};
 
-// What is found of a state: how many activities are enabled, and how many of these are held back; or it is refused.
+// What is found of a state: how many activities are enabled, and how many of these are held back.
 #[derive(Clone, Copy)]
-pub enum Tally {
-    Found { enabled: usize, held: usize },
-    Refused(Refusal, usize),
+pub struct Tally {
+    pub enabled: usize,
+    pub held: usize,
 }
 
 // The check of what is lent beside the state: the graph, then ledger and cells by their lengths in bytes, then the bound.
-fn check_lent(graph: &[u8], bound: usize, ledger: usize, cells: usize) -> Checked
+fn check_lent(graph: &[u8], bound: usize, ledger: usize, cells: usize) -> Result<(), Fault>
     ensures { result ≡ count_lent_checked graph.now bound ledger cells }
 {
-    let of_graph = graph::check(graph);
-    let Checked::Passed = of_graph else {
-        return of_graph;
-    };
+    graph::check(graph)?;
     bound::check(stores::check(0, 0, ledger, cells), bound)
 }
 
@@ -50,14 +47,14 @@ fn count_free(
         (free_of (machine_of (graph_of graph.now) table capacity count) (held_in (graph_of graph.now) bound)
         (state_held (tokens used ledger.now) cs)) }
 {
-    let mut nexts = [0u64; store_flags::LENGTH];
-    let mut held = [0u64; store_flags::LENGTH];
+    let mut nexts = Flags::new();
+    let mut held = Flags::new();
     let mut marks = [0u16; 4096];
     // No activity fired: all records are new, and the place is none.
     held::follow(
         graph, tables, flags, ledger, 0, used, 0, bound, &mut nexts, &mut held, &mut marks,
     );
-    store_flags::count_but(flags, &held)
+    Free::new(flags, &held).count()
 }
 
 // A state is taken and counted, or it is refused by 24.
@@ -68,29 +65,29 @@ fn count_taken(
     used: usize,
     ledger: &[u8],
     cells: &[u8],
-) -> Tally
+) -> Result<Tally, Fault>
     requires { LentToCount graph.now (length ledger.now) (length cells.now) × (bound < 65536) }
     ensures { result ≡ counted graph.now bound firings used ledger.now cells.now }
 {
     let none = [0u8; 0];
     let mut tables = [0u16; store_enabled::TABLES_LENGTH];
     let mut links = [0u16; store_chains::LENGTH];
-    let mut flags = [0u64; store_flags::LENGTH];
+    let mut flags = Flags::new();
     graph_tables::make(graph, &none, &mut tables);
     if !saved::take(
         graph, &tables, &mut links, &mut flags, ledger, cells, firings, used,
     ) {
-        return Tally::Refused(Refusal::DamagedState, 0);
+        return Err(Refusal::DamagedState.at(0));
     }
-    let enabled = store_flags::count(&flags);
+    let enabled = flags.count();
     if bound == 0 {
-        return Tally::Found { enabled, held: 0 };
+        return Ok(Tally { enabled, held: 0 });
     }
     let free = count_free(graph, &tables, &flags, ledger, used, bound);
-    Tally::Found {
+    Ok(Tally {
         enabled,
         held: enabled - free,
-    }
+    })
 }
 
 // Of a saved state, the first tokens of the ledger, the cells and the two counts of the answer that came with them: how many
@@ -102,13 +99,10 @@ pub fn count(
     tokens: u16,
     ledger: &[u8],
     cells: &[u8],
-) -> Tally
+) -> Result<Tally, Fault>
     ensures { result ≡ counts graph.now bound firings tokens ledger.now cells.now }
 {
     let k = bound as usize;
-    let checked = check_lent(graph, k, ledger.len(), cells.len());
-    match checked {
-        Checked::Failed(r, place) => Tally::Refused(r, place),
-        Checked::Passed => count_taken(graph, k, firings as usize, tokens as usize, ledger, cells),
-    }
+    check_lent(graph, k, ledger.len(), cells.len())?;
+    count_taken(graph, k, firings as usize, tokens as usize, ledger, cells)
 }

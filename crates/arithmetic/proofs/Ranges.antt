@@ -3,19 +3,17 @@
 use Prim.Native.Nat.{ℕ}
 use mathlib.Core.Path.{◌≡◌, refl, sym, ap, ◌∙◌, subst}
 use mathlib.Core.Bool.{Bool, true, false, ◌&&◌, cond}
-use mathlib.Core.Option.{none, some}
 use native.Mathlib.Omega.{arith}
 use lib.IntN.{ℤ, pos}
 use lib.Signed.{lt_z, le_z, quot_z, rem_z, ◌≤ℤ◌}
 use mir.Syntax.{w32}
 use mir.Val.{SFits}
+use Rattle.std.specs.Prelude.{Option, None, Some, is_some}
 use Rattle.record.specs.declared.operation.Arithmetic.{Arithmetic}
 use Rattle.record.specs.declared.operation.Arithmetic.TheVariants.{Add, Sub, Mul, Div, Rem, Lt, Le, Eq}
-use Rattle.arithmetic.specs.declared.Computed.{Computed}
-use Rattle.arithmetic.specs.declared.Computed.TheVariants.{Value, OutOfRange}
 use Rattle.arithmetic.specs.Arithmetic.{least, most, eq_z, ranged, divided, truth, compute_of}
 use Rattle.arithmetic.specs.declared.Range.{Range}
-use Rattle.arithmetic.specs.Ranges.{Holds, ProperRange, may_be_zero, truth_value, outcome, remainders, outcomes, divides, is_value, in_bits, range_of}
+use Rattle.arithmetic.specs.Ranges.{Holds, ProperRange, may_be_zero, truth_value, outcome, remainders, outcomes, divides, in_bits, range_of}
 use Rattle.arithmetic.specs.Ranges.{FitsBits, OutcomeOf, HoldsEvery, Smallest, RefusedFor, RefusedForZero, GivesSound}
 use Rattle.arithmetic.proofs.Order.{≤ℤ_trans, le_test, lt_is}
 use Rattle.arithmetic.proofs.Corners.{holds_low, holds_proper, corners_hold, Reached, low_corner, high_corner}
@@ -47,27 +45,27 @@ computed Le x y n = truth_ranged (le_z x y)
 computed Eq x y n = truth_ranged (eq_z x y)
 
 -- the numbers of 32 bits
-bits_of : (z : ℤ) → is_value (ranged z) ≡ true → (least ≤ℤ z) × (z ≤ℤ most)
+bits_of : (z : ℤ) → is_some (ranged z) ≡ true → (least ≤ℤ z) × (z ≤ℤ most)
 unfolding ranged
 bits_of z e = go (lt_z z least) (lt_z most z) refl refl e
   where
-    go : (s t : Bool) → lt_z z least ≡ s → lt_z most z ≡ t → is_value (cond s OutOfRange (cond t OutOfRange (Value z))) ≡ true → (least ≤ℤ z) × (z ≤ℤ most)
+    go : (s t : Bool) → lt_z z least ≡ s → lt_z most z ≡ t → is_some (cond s None (cond t None (Some z))) ≡ true → (least ≤ℤ z) × (z ≤ℤ most)
     go true t i j f = true_false (sym f)
     go false true i j f = true_false (sym f)
     go false false i j f = (not_less z least i, not_less most z j)
 
-of_bits : (z : ℤ) → least ≤ℤ z → z ≤ℤ most → ranged z ≡ Value z
+of_bits : (z : ℤ) → least ≤ℤ z → z ≤ℤ most → ranged z ≡ Some z
 unfolding ranged
 of_bits z h k = rw (lt_is z least, lt_is most z, le_test least z h, le_test z most k)
 
-pub past_bits : (z : ℤ) → is_value (ranged z) ≡ false → ranged z ≡ OutOfRange
+pub past_bits : (z : ℤ) → is_some (ranged z) ≡ false → ranged z ≡ None
 past_bits z e = go (ranged z) e
   where
-    go : (c : Computed) → is_value c ≡ false → c ≡ OutOfRange
-    go (Value v) f = true_false f
-    go OutOfRange f = refl
+    go : (c : Option ℤ) → is_some c ≡ false → c ≡ None
+    go (Some v) f = true_false f
+    go None f = refl
 
-pub own_bits : (z : ℤ) → is_value (ranged z) ≡ true → ranged z ≡ Value z
+pub own_bits : (z : ℤ) → is_some (ranged z) ≡ true → ranged z ≡ Some z
 own_bits z e = let (l, h) = bits_of z e in of_bits z l h
 
 -- ---- the outcomes of ranges
@@ -104,15 +102,15 @@ ends_given Eq n a b p q = record { least = equal_low a b p q; most = equal_high 
 record Given (op : Arithmetic) (a b r : Range) : Type 0 where
   divisible : Divisible op b
   range : outcomes op a b ≡ r
-  low_fits_lem : is_value (ranged r.low) ≡ true
-  high_fits : is_value (ranged r.high) ≡ true
+  low_fits_lem : is_some (ranged r.low) ≡ true
+  high_fits : is_some (ranged r.high) ≡ true
 
-given : (op : Arithmetic) (a b r : Range) → range_of op a b ≡ some r → Given op a b r
+given : (op : Arithmetic) (a b r : Range) → range_of op a b ≡ Some r → Given op a b r
 unfolding range_of
-given op a b r e = go (divides op && may_be_zero b) (is_value (ranged (outcomes op a b).low)) (is_value (ranged (outcomes op a b).high)) refl refl refl e
+given op a b r e = go (divides op && may_be_zero b) (is_some (ranged (outcomes op a b).low)) (is_some (ranged (outcomes op a b).high)) refl refl refl e
   where
-    go : (t l h : Bool) → divides op && may_be_zero b ≡ t → is_value (ranged (outcomes op a b).low) ≡ l → is_value (ranged (outcomes op a b).high) ≡ h
-        → cond t none (cond (l && h) (some (outcomes op a b)) none) ≡ some r → Given op a b r
+    go : (t l h : Bool) → divides op && may_be_zero b ≡ t → is_some (ranged (outcomes op a b).low) ≡ l → is_some (ranged (outcomes op a b).high) ≡ h
+        → cond t None (cond (l && h) (Some (outcomes op a b)) None) ≡ Some r → Given op a b r
     go true l h i j k f = let z : ◌≡◌ {A = ℕ} 0 1 = cc in absurd (omega arith)
     go false false h i j k f = let z : ◌≡◌ {A = ℕ} 0 1 = cc in absurd (omega arith)
     go false true false i j k f = let z : ◌≡◌ {A = ℕ} 0 1 = cc in absurd (omega arith)
@@ -126,7 +124,7 @@ holds_every op a b r e x y h k =
     (outcome op x y, computed op x y (by_nonzero_or op b g.divisible y k) ∙ within, held)
 
 -- an outcome, as the operation computes it
-outcome_computed : (op : Arithmetic) (a b : Range) → Divisible op b → (z : ℤ) (c : Computed) → Reached (outcome op) a b z → ranged z ≡ c → OutcomeOf op a b c
+outcome_computed : (op : Arithmetic) (a b : Range) → Divisible op b → (z : ℤ) (c : Option ℤ) → Reached (outcome op) a b z → ranged z ≡ c → OutcomeOf op a b c
 outcome_computed op a b d z c r e = record {
   left = r.left;
   right = r.right;
@@ -140,12 +138,12 @@ smallest op n a b r p q e =
     let g = given op a b r e in
     let ends = ends_given op n a b p q in
     record {
-      least = outcome_computed op a b g.divisible r.low (Value r.low) (subst (λ (s : Range). Reached (outcome op) a b s.low) g.range ends.least) (own_bits r.low g.low_fits_lem);
-      most = outcome_computed op a b g.divisible r.high (Value r.high) (subst (λ (s : Range). Reached (outcome op) a b s.high) g.range ends.most) (own_bits r.high g.high_fits);
+      least = outcome_computed op a b g.divisible r.low (Some r.low) (subst (λ (s : Range). Reached (outcome op) a b s.low) g.range ends.least) (own_bits r.low g.low_fits_lem);
+      most = outcome_computed op a b g.divisible r.high (Some r.high) (subst (λ (s : Range). Reached (outcome op) a b s.high) g.range ends.most) (own_bits r.high g.high_fits);
     }
 
 -- of a divisor 0 there is none
-pub by_zero : (op : Arithmetic) (x : ℤ) → divides op ≡ true → compute_of op x (pos 0) ≡ OutOfRange
+pub by_zero : (op : Arithmetic) (x : ℤ) → divides op ≡ true → compute_of op x (pos 0) ≡ None
 unfolding compute_of divided
 by_zero Add x e = true_false (sym e)
 by_zero Sub x e = true_false (sym e)
@@ -158,23 +156,23 @@ by_zero Eq x e = true_false (sym e)
 
 pub refused_for : RefusedFor
 unfolding range_of
-refused_for op n a b p q e = go (divides op && may_be_zero b) (is_value (ranged (outcomes op a b).low)) (is_value (ranged (outcomes op a b).high)) refl refl refl e
+refused_for op n a b p q e = go (divides op && may_be_zero b) (is_some (ranged (outcomes op a b).low)) (is_some (ranged (outcomes op a b).high)) refl refl refl e
   where
     ends : EndsGiven op a b
     ends = ends_given op n a b p q
 
-    go : (t l h : Bool) → divides op && may_be_zero b ≡ t → is_value (ranged (outcomes op a b).low) ≡ l → is_value (ranged (outcomes op a b).high) ≡ h
-        → cond t none (cond (l && h) (some (outcomes op a b)) none) ≡ none → OutcomeOf op a b OutOfRange
+    go : (t l h : Bool) → divides op && may_be_zero b ≡ t → is_some (ranged (outcomes op a b).low) ≡ l → is_some (ranged (outcomes op a b).high) ≡ h
+        → cond t None (cond (l && h) (Some (outcomes op a b)) None) ≡ None → OutcomeOf op a b None
     go true l h i j k f =
         let (d, z) = both_true (divides op) (may_be_zero b) i in
         record { left = a.low; right = pos 0; holds_left = holds_low a p; holds_right = zero_held b z; gives = by_zero op a.low d }
-    go false false h i j k f = outcome_computed op a b i (outcomes op a b).low OutOfRange ends.least (past_bits (outcomes op a b).low j)
-    go false true false i j k f = outcome_computed op a b i (outcomes op a b).high OutOfRange ends.most (past_bits (outcomes op a b).high k)
+    go false false h i j k f = outcome_computed op a b i (outcomes op a b).low None ends.least (past_bits (outcomes op a b).low j)
+    go false true false i j k f = outcome_computed op a b i (outcomes op a b).high None ends.most (past_bits (outcomes op a b).high k)
     go false true true i j k f = let z : ◌≡◌ {A = ℕ} 0 1 = cc in absurd (omega arith)
 
 -- ---- 32-bit ends
 
-fits_of : (z : ℤ) → is_value (ranged z) ≡ true → SFits w32 z
+fits_of : (z : ℤ) → is_some (ranged z) ≡ true → SFits w32 z
 fits_of z e = ranged_fits z z (own_bits z e)
 
 pub gives_sound : GivesSound
@@ -190,6 +188,6 @@ refused_for_zero a b f g e = go (may_be_zero b) refl e
     fit : FitsBits (remainders a b)
     fit = remainders_fit a b f g
 
-    go : (t : Bool) → may_be_zero b ≡ t → cond t none (in_bits (remainders a b)) ≡ none → t ≡ true
+    go : (t : Bool) → may_be_zero b ≡ t → cond t None (in_bits (remainders a b)) ≡ None → t ≡ true
     go true i k = refl
     go false i k = let z : ◌≡◌ {A = ℕ} 0 1 = cc (rw (fits_ranged (remainders a b).low fit.low, fits_ranged (remainders a b).high fit.high) at k) in absurd (omega arith)

@@ -1,14 +1,14 @@
 -- Of single values an operation over ranges gives what it gives of numbers (`single_exact`). Assumes nothing.
 use mathlib.Core.Path.{◌≡◌, refl, sym, ◌∙◌, subst}
 use mathlib.Core.Bool.{Bool, true, false, ◌&&◌, cond}
-use mathlib.Core.Option.{none}
 use lib.IntN.{ℤ, pos}
 use lib.Signed.{le_z, rem_z, ◌≤ℤ◌, ≤ℤ_refl}
+use Rattle.std.specs.Prelude.{None, is_some, option_map}
 use Rattle.record.specs.declared.operation.Arithmetic.{Arithmetic}
 use Rattle.record.specs.declared.operation.Arithmetic.TheVariants.{Add, Sub, Mul, Div, Rem, Lt, Le, Eq}
 use Rattle.arithmetic.specs.Arithmetic.{eq_z, ranged, compute_of}
-use Rattle.arithmetic.specs.Ranges.{Holds, single, may_be_zero, smaller, larger, corners, truth_value, outcome, equalities, remainders, outcomes, divides, is_value, in_bits, range_of}
-use Rattle.arithmetic.specs.Ranges.{as_range, SingleExact}
+use Rattle.arithmetic.specs.Ranges.{Holds, single, may_be_zero, smaller, larger, corners, truth_value, outcome, equalities, remainders, outcomes, divides, in_bits, range_of}
+use Rattle.arithmetic.specs.Ranges.{SingleExact}
 use Rattle.arithmetic.proofs.Order.{≤ℤ_antisym, test_le, le_test}
 use Rattle.arithmetic.proofs.Ranged.{eq_eq_z, eq_z_true}
 use Rattle.arithmetic.proofs.Rising.{true_false, both_true}
@@ -61,10 +61,10 @@ outcomes_single Lt x y = corners_single (outcome Lt) x y
 outcomes_single Le x y = corners_single (outcome Le) x y
 outcomes_single Eq x y = equal_single x y
 
-in_bits_single : (z : ℤ) → in_bits (single z) ≡ as_range (ranged z)
-in_bits_single z = go (is_value (ranged z)) refl
+in_bits_single : (z : ℤ) → in_bits (single z) ≡ option_map single (ranged z)
+in_bits_single z = go (is_some (ranged z)) refl
   where
-    go : (t : Bool) → is_value (ranged z) ≡ t → in_bits (single z) ≡ as_range (ranged z)
+    go : (t : Bool) → is_some (ranged z) ≡ t → in_bits (single z) ≡ option_map single (ranged z)
     go true e = rw (own_bits z e)
     go false e = rw (past_bits z e)
 
@@ -72,7 +72,7 @@ pub single_exact : SingleExact
 unfolding range_of
 single_exact op x y = go (divides op && may_be_zero (single y)) refl
   where
-    go : (t : Bool) → divides op && may_be_zero (single y) ≡ t → cond t none (in_bits (outcomes op (single x) (single y))) ≡ as_range (compute_of op x y)
+    go : (t : Bool) → divides op && may_be_zero (single y) ≡ t → cond t None (in_bits (outcomes op (single x) (single y))) ≡ option_map single (compute_of op x y)
     go true e =
         let (d, z) = both_true (divides op) (may_be_zero (single y)) e in
         let (l, h) = both_true (le_z y (pos 0)) (le_z (pos 0) y) z in

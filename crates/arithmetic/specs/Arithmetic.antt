@@ -1,11 +1,9 @@
 -- 01, "Firing": ADD SUB MUL DIV REM LT LE EQ, over the integers. "Quotients go toward zero; the remainder has the dividend's sign;
 -- -2,147,483,648 REM -1 is 0. LT, LE and EQ give 1 or 0." Refusal 12: "result past 32 signed bits, or divisor 0". Assumes nothing.
-use Rattle.std.specs.Prelude.{zero, suc, Bool, false, cond, eqb, ℤ, pos, negsuc, ◌+ℤ◌, ◌-ℤ◌, ◌*ℤ◌}
+use Rattle.std.specs.Prelude.{zero, suc, Bool, false, cond, eqb, ℤ, pos, negsuc, ◌+ℤ◌, ◌-ℤ◌, ◌*ℤ◌, Option, None, Some}
 use Rattle.std.specs.Int.Signed.{lt_z, le_z, quot_z, rem_z}
 use Rattle.record.specs.declared.operation.Arithmetic.{Arithmetic}
 use Rattle.record.specs.declared.operation.Arithmetic.TheVariants.{Add, Sub, Mul, Div, Rem, Lt, Le, Eq}
-use Rattle.arithmetic.specs.declared.Computed.{Computed}
-use Rattle.arithmetic.specs.declared.Computed.TheVariants.{Value, OutOfRange}
 
 -- the ends of 32 signed bits
 abbrev pub least : ℤ
@@ -21,21 +19,21 @@ eq_z (negsuc a) (pos b) = false
 eq_z (negsuc a) (negsuc b) = eqb a b
 
 -- the number, where it fits 32 signed bits
-unfoldable pub ranged : ℤ → Computed
-ranged z = cond (lt_z z least) OutOfRange (cond (lt_z most z) OutOfRange (Value z))
+unfoldable pub ranged : ℤ → Option ℤ
+ranged z = cond (lt_z z least) None (cond (lt_z most z) None (Some z))
 
 -- z, a quotient or a remainder by b: by 0 there is none
-unfoldable pub divided : ℤ → ℤ → Computed
-divided (pos zero) z = OutOfRange
+unfoldable pub divided : ℤ → ℤ → Option ℤ
+divided (pos zero) z = None
 divided (pos (suc n)) z = ranged z
 divided (negsuc n) z = ranged z
 
 -- 1 if so, else 0
-abbrev pub truth : Bool → Computed
-truth t = cond t (Value (pos 1)) (Value (pos 0))
+abbrev pub truth : Bool → Option ℤ
+truth t = cond t (Some (pos 1)) (Some (pos 0))
 
 -- what an operation gives. quot_z rounds toward zero, and rem_z has the dividend's sign (specs/Division)
-unfoldable pub compute_of : Arithmetic → ℤ → ℤ → Computed
+unfoldable pub compute_of : Arithmetic → ℤ → ℤ → Option ℤ
 compute_of Add a b = ranged (a +ℤ b)
 compute_of Sub a b = ranged (a -ℤ b)
 compute_of Mul a b = ranged (a *ℤ b)

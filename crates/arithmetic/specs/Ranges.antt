@@ -1,16 +1,13 @@
 -- 02, R-11: the operations over ranges, "the smallest range that holds every outcome, each operand chosen freely within its range; refusal 12 comes if an
 -- outcome is out of range or the divisor's range holds 0". The definitions compute by the ends of the operands; what is stated of them is proved in
 -- proofs/Ranges. Assumes nothing.
-use Rattle.std.specs.Prelude.{◌-◌, max, ◌≡◌, Bool, true, false, ◌&&◌, cond, ℤ, pos, neg_ℤ, nat_abs, ◌+ℤ◌, ◌-ℤ◌, ◌*ℤ◌, ◌≤ℤ◌}
-use Rattle.std.proofs.Math.Option.{Option, none, some}
+use Rattle.std.specs.Prelude.{◌-◌, max, ◌≡◌, Bool, true, false, ◌&&◌, cond, ℤ, pos, neg_ℤ, nat_abs, ◌+ℤ◌, ◌-ℤ◌, ◌*ℤ◌, ◌≤ℤ◌, Option, None, Some, is_some, option_map}
 use Rattle.std.specs.Int.Signed.{lt_z, le_z, quot_z, rem_z}
 use Rattle.std.specs.Int.{w32}
 use Rattle.std.proofs.Common.{SFits}
 use Rattle.record.specs.declared.operation.Arithmetic.{Arithmetic}
 use Rattle.record.specs.declared.operation.Arithmetic.TheVariants.{Add, Sub, Mul, Div, Rem, Lt, Le, Eq}
 use Rattle.arithmetic.specs.declared.Range.{Range}
-use Rattle.arithmetic.specs.declared.Computed.{Computed}
-use Rattle.arithmetic.specs.declared.Computed.TheVariants.{Value, OutOfRange}
 use Rattle.arithmetic.specs.Arithmetic.{eq_z, ranged, compute_of}
 
 -- ---- ranges
@@ -107,22 +104,17 @@ divides Lt = false
 divides Le = false
 divides Eq = false
 
--- it fits 32 signed bits
-abbrev pub is_value : Computed → Bool
-is_value (Value v) = true
-is_value OutOfRange = false
-
 abbrev pub in_bits : Range → Option Range
-in_bits r = cond (is_value (ranged r.low) && is_value (ranged r.high)) (some r) none
+in_bits r = cond (is_some (ranged r.low) && is_some (ranged r.high)) (Some r) None
 
 -- what an operation gives of two ranges; none is refusal 12
 unfoldable pub range_of : Arithmetic → Range → Range → Option Range
-range_of op a b = cond (divides op && may_be_zero b) none (in_bits (outcomes op a b))
+range_of op a b = cond (divides op && may_be_zero b) None (in_bits (outcomes op a b))
 
 -- ---- what is stated
 
 -- of two numbers out of two ranges an operation gives the computed c
-pub record OutcomeOf (op : Arithmetic) (a b : Range) (c : Computed) : Type 0 where
+pub record OutcomeOf (op : Arithmetic) (a b : Range) (c : Option ℤ) : Type 0 where
   pub left : ℤ
   pub right : ℤ
   pub holds_left : Holds a left
@@ -131,23 +123,23 @@ pub record OutcomeOf (op : Arithmetic) (a b : Range) (c : Computed) : Type 0 whe
 
 -- every outcome is held; so it is for REM too
 abbrev pub HoldsEvery : Type 0
-HoldsEvery = (op : Arithmetic) (a b r : Range) → range_of op a b ≡ some r → (x y : ℤ) → Holds a x → Holds b y → (v : ℤ) × (compute_of op x y ≡ Value v) × Holds r v
+HoldsEvery = (op : Arithmetic) (a b r : Range) → range_of op a b ≡ Some r → (x y : ℤ) → Holds a x → Holds b y → (v : ℤ) × (compute_of op x y ≡ Some v) × Holds r v
 
 -- the smallest such range: both ends are outcomes
 pub record EndsReached (op : Arithmetic) (a b r : Range) : Type 0 where
-  pub least : OutcomeOf op a b (Value r.low)
-  pub most : OutcomeOf op a b (Value r.high)
+  pub least : OutcomeOf op a b (Some r.low)
+  pub most : OutcomeOf op a b (Some r.high)
 
 abbrev pub Smallest : Type 0
-Smallest = (op : Arithmetic) → ¬ (op ≡ Rem) → (a b r : Range) → ProperRange a → ProperRange b → range_of op a b ≡ some r → EndsReached op a b r
+Smallest = (op : Arithmetic) → ¬ (op ≡ Rem) → (a b r : Range) → ProperRange a → ProperRange b → range_of op a b ≡ Some r → EndsReached op a b r
 
 -- and refusal 12 comes only if an outcome is out of range or a divisor 0
 abbrev pub RefusedFor : Type 0
-RefusedFor = (op : Arithmetic) → ¬ (op ≡ Rem) → (a b : Range) → ProperRange a → ProperRange b → range_of op a b ≡ none → OutcomeOf op a b OutOfRange
+RefusedFor = (op : Arithmetic) → ¬ (op ≡ Rem) → (a b : Range) → ProperRange a → ProperRange b → range_of op a b ≡ None → OutcomeOf op a b None
 
 -- REM of 32-bit operands: only for a divisor's range that holds 0
 abbrev pub RefusedForZero : Type 0
-RefusedForZero = (a b : Range) → FitsBits a → FitsBits b → range_of Rem a b ≡ none → may_be_zero b ≡ true
+RefusedForZero = (a b : Range) → FitsBits a → FitsBits b → range_of Rem a b ≡ None → may_be_zero b ≡ true
 
 -- what is given is a range again, of 32-bit ends
 pub record Sound (r : Range) : Type 0 where
@@ -155,12 +147,8 @@ pub record Sound (r : Range) : Type 0 where
   pub fits : FitsBits r
 
 abbrev pub GivesSound : Type 0
-GivesSound = (op : Arithmetic) (a b r : Range) → ProperRange a → ProperRange b → range_of op a b ≡ some r → Sound r
+GivesSound = (op : Arithmetic) (a b r : Range) → ProperRange a → ProperRange b → range_of op a b ≡ Some r → Sound r
 
 -- of single values an operation over ranges gives what it gives of numbers
-abbrev pub as_range : Computed → Option Range
-as_range (Value v) = some (single v)
-as_range OutOfRange = none
-
 abbrev pub SingleExact : Type 0
-SingleExact = (op : Arithmetic) (x y : ℤ) → range_of op (single x) (single y) ≡ as_range (compute_of op x y)
+SingleExact = (op : Arithmetic) (x y : ℤ) → range_of op (single x) (single y) ≡ option_map single (compute_of op x y)

@@ -1,16 +1,10 @@
-// Signed 32-bit arithmetic: what an operation gives of two operands, or that it is out of range.
+// Signed 32-bit arithmetic: what an operation gives of two operands; None where that is out of range.
 #![tactic(auto)]
 
 ghost use Rattle.std.specs.Prelude.{◌≡◌};
 ghost use Rattle.arithmetic.specs.Arithmetic.{compute_of, ranged};
 
 use record::operation::Arithmetic;
-
-#[derive(Clone, Copy)]
-pub enum Computed {
-    Value(i32),
-    OutOfRange,
-}
 
 // The values from low to high.
 #[derive(Clone, Copy)]
@@ -19,93 +13,78 @@ pub struct Range {
     pub high: i32,
 }
 
-const LEAST: i32 = -2147483648;
-
 // A 64-bit result as a 32-bit one, where it fits.
-pub fn narrowed(z: i64) -> Computed
+pub fn narrowed(z: i64) -> Option<i32>
     ensures { result ≡ ranged z }
 {
-    if z < -2147483648 {
-        return Computed::OutOfRange;
-    }
-    if 2147483647 < z {
-        return Computed::OutOfRange;
-    }
-    Computed::Value(z as i32)
+    i32::try_from(z).ok()
 }
 
-fn add(a: i32, b: i32) -> Computed
+fn add(a: i32, b: i32) -> Option<i32>
     ensures { result ≡ compute_of Arithmetic.Add a b }
 {
-    narrowed((a as i64) + (b as i64))
+    a.checked_add(b)
 }
 
-fn sub(a: i32, b: i32) -> Computed
+fn sub(a: i32, b: i32) -> Option<i32>
     ensures { result ≡ compute_of Arithmetic.Sub a b }
 {
-    narrowed((a as i64) - (b as i64))
+    a.checked_sub(b)
 }
 
-fn mul(a: i32, b: i32) -> Computed
+fn mul(a: i32, b: i32) -> Option<i32>
     ensures { result ≡ compute_of Arithmetic.Mul a b }
 {
-    narrowed((a as i64) * (b as i64))
+    a.checked_mul(b)
 }
 
-// The one quotient past the range is the least number by -1.
-fn div(a: i32, b: i32) -> Computed
+fn div(a: i32, b: i32) -> Option<i32>
     ensures { result ≡ compute_of Arithmetic.Div a b }
 {
-    if b == 0 {
-        return Computed::OutOfRange;
-    }
-    if a == LEAST && b == -1 {
-        return Computed::OutOfRange;
-    }
-    Computed::Value(a / b)
+    a.checked_div(b)
 }
 
-// Any number by -1 leaves 0; the machine's remainder is not defined at the least number.
-fn rem(a: i32, b: i32) -> Computed
+// Any number by -1 leaves 0; `checked_rem` has none at the least number.
+fn rem(a: i32, b: i32) -> Option<i32>
     ensures { result ≡ compute_of Arithmetic.Rem a b }
 {
     if b == 0 {
-        return Computed::OutOfRange;
+        return None;
     }
     if b == -1 {
-        return Computed::Value(0);
+        return Some(0);
     }
-    Computed::Value(a % b)
+    Some(a % b)
 }
 
-fn lt(a: i32, b: i32) -> Computed
+fn lt(a: i32, b: i32) -> Option<i32>
     ensures { result ≡ compute_of Arithmetic.Lt a b }
 {
     if a < b {
-        return Computed::Value(1);
+        return Some(1);
     }
-    Computed::Value(0)
+    Some(0)
 }
 
-fn le(a: i32, b: i32) -> Computed
+fn le(a: i32, b: i32) -> Option<i32>
     ensures { result ≡ compute_of Arithmetic.Le a b }
 {
     if a <= b {
-        return Computed::Value(1);
+        return Some(1);
     }
-    Computed::Value(0)
+    Some(0)
 }
 
-fn eq(a: i32, b: i32) -> Computed
+fn eq(a: i32, b: i32) -> Option<i32>
     ensures { result ≡ compute_of Arithmetic.Eq a b }
 {
     if a == b {
-        return Computed::Value(1);
+        return Some(1);
     }
-    Computed::Value(0)
+    Some(0)
 }
 
-pub fn compute(op: Arithmetic, a: i32, b: i32) -> Computed
+pub fn compute(op: Arithmetic, a: i32, b: i32) -> Option<i32>
     ensures { result ≡ compute_of op a b }
 {
     match op {

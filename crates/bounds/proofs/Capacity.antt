@@ -1,5 +1,6 @@
 -- 02, R-12, in bytes, proved: with room for its tokens a run that completed or hung ends the same (`enough_room`), with less every order is refused by 8
 -- (`too_small`). From the same over the rules. Assumes nothing.
+use Rattle.std.proofs.Common.{Ok, Err}
 use Prim.Native.Nat.{ℕ, ◌*◌, ◌/◌, ◌%◌, ◌≤◌, ◌<◌}
 use native.Mathlib.Omega.{arith}
 use mathlib.Core.Path.{◌≡◌, refl, sym, ap, ◌∙◌, subst}
@@ -21,10 +22,8 @@ use Rattle.rules.specs.declared.answer.Refusal.{Refusal}
 use Rattle.rules.specs.declared.answer.Answer.{Answer}
 use Rattle.rules.specs.declared.answer.Refusal.TheVariants.{LedgerFull}
 use Rattle.rules.specs.declared.answer.Outcome.TheVariants.{Refused}
-use Rattle.rules.specs.declared.answer.Checked.{Checked}
-use Rattle.rules.specs.declared.answer.Checked.TheVariants.{Passed, Failed}
 use Rattle.record.specs.GraphRecords.{graph_of}
-use Rattle.rules.specs.Check.{check, check_stores, check_arrays, most_cells}
+use Rattle.rules.specs.Check.{check, check_stores, check_arrays, most_cells, Checked}
 use Rattle.rules.specs.Run.{cell_record, outcome_of, Result, refused_at_once, ran_to, unless_failed, result, answer, ledger_after, cells_after, token_record}
 use Rattle.rules.specs.Orders.{result_outcome, result_tokens, result_cells, Allowed}
 use Rattle.rules.specs.Invariants.{LawfulResult}
@@ -46,10 +45,10 @@ module _ (graph arrays inputs : List ℕ) (ledger cells : ℕ) where
   cell_count_lem (ran_to e) h = length-map e.state.cells cell_record ∙ h.invariants.cell_count
 
   -- and the inputs among the tokens, where the check passed
-  inputs_among : (c : Checked) (e : End Refusal Tag ℤ) → c ≡ Passed → LawfulResult graph arrays inputs ledger cells (unless_failed c (ran_to e)) → length inputs / token_width ≤ (answer (unless_failed c (ran_to e))).tokens
+  inputs_among : (c : Checked) (e : End Refusal Tag ℤ) → c ≡ Ok tt → LawfulResult graph arrays inputs ledger cells (unless_failed c (ran_to e)) → length inputs / token_width ≤ (answer (unless_failed c (ran_to e))).tokens
   unfolding answer unless_failed
-  inputs_among Passed e p h = omega (arith, h.invariants.count, tokens_first inputs (cells / cell_width), length_rows token_width Tokens.decode_token (length inputs / token_width) inputs)
-  inputs_among (Failed r place) e p h = let z : ◌≡◌ {A = ℕ} 0 1 = cc in absurd (omega arith)
+  inputs_among (Ok _) e p h = omega (arith, h.invariants.count, tokens_first inputs (cells / cell_width), length_rows token_width Tokens.decode_token (length inputs / token_width) inputs)
+  inputs_among (Err fault) e p h = let z : ◌≡◌ {A = ℕ} 0 1 = cc in absurd (omega arith)
 
 -- the cells are all written
 cell_bytes_lem : (x : Result) → Quiescent (result_outcome x) → (lent : List ℕ) → length lent % cell_width ≡ 0 → CellCount x (length lent / cell_width) → cells_after x lent ≡ joined Cells.encode_cell (result_cells x)

@@ -1,4 +1,5 @@
 -- Laws of a table of ports: what it says once a port, the ports of an instruction or of an input are marked. Assumes nothing.
+use Rattle.std.proofs.Common.{Ok}
 use Prim.Native.Nat.{ℕ, zero, suc, ◌+◌, ◌*◌, ◌/◌, ◌≤◌, ◌<◌}
 use native.Mathlib.Omega.{arith}
 use native.Mathlib.Decide.{ℕ_discrete}
@@ -20,7 +21,6 @@ use Rattle.record.specs.GraphRecords.{graph_of, in_use, destinations}
 use Rattle.record.specs.Widths.{token_width}
 use Rattle.record.proofs.Paths.{path_same}
 use Rattle.rules.specs.declared.answer.Refusal.TheVariants.{BadInput}
-use Rattle.rules.specs.declared.answer.Checked.TheVariants.{Passed}
 use Rattle.rules.specs.Check.{demand, any, all, in_turn, good_arc, good_input, operands_at, instruction_at, check_graph}
 use Rattle.rules.proofs.Lists.{or_right}
 use Rattle.rules.proofs.PassedGraph.{two_operands}
@@ -84,11 +84,11 @@ arcs_inside g n (d ∷ ds) e =
     let (l, h) = good_arc_lem g d (and_true_left (good_arc g d) _ e) in
     (port_inside g d.instruction d.port n l h, arcs_inside g n ds (and_true_right (good_arc g d) _ e))
 
-module _ (graph : List ℕ) (passed : check_graph graph ≡ Passed) where
+module _ (graph : List ℕ) (passed : check_graph graph ≡ Ok tt) where
   pub destinations_inside : (i : ℕ) → i < length (graph_of graph) → InsideAll (destinations (instruction_at (graph_of graph) i))
   destinations_inside i h = arcs_inside (graph_of graph) (passed_length graph passed).1 (destinations (instruction_at (graph_of graph) i)) (passed_at graph passed i h).arcs
 
-  pub inputs_inside : (inputs : List ℕ) → in_turn (λ i good. demand good BadInput i) 0 (all_rows token_width (good_input (graph_of graph)) inputs) ≡ Passed
+  pub inputs_inside : (inputs : List ℕ) → in_turn (λ i good. demand good BadInput i) 0 (all_rows token_width (good_input (graph_of graph)) inputs) ≡ Ok tt
       → (i : ℕ) → i < length inputs / token_width → GoodToken (token_at inputs i)
   unfolding Tokens.decode_token
   inputs_inside inputs e i h =

@@ -1,4 +1,5 @@
 -- What `bounds` answers is small: 256 firings and 2,560 tokens at most, and a place below 2,048 (`needs_small`). Assumes nothing.
+use Rattle.std.proofs.Common.{Result, Ok, Err}
 use Prim.Native.Nat.{ℕ, zero, suc, ◌+◌, ◌*◌, ◌/◌, ◌≤◌, ◌<◌}
 use native.Mathlib.Omega.{arith}
 use native.Mathlib.Nat.{suc-mul}
@@ -18,20 +19,18 @@ use Rattle.record.specs.TokensAndTags.{most_tokens}
 use Rattle.record.specs.TokensAndTags as Tokens
 use Rattle.record.specs.Widths.{token_width, graph_width}
 use Rattle.rules.specs.declared.answer.Refusal.TheVariants.{BadInput, NotLoopFree}
-use Rattle.rules.specs.declared.answer.Checked.{Checked}
-use Rattle.rules.specs.declared.answer.Checked.TheVariants.{Passed, Failed}
+use Rattle.rules.specs.declared.answer.Fault.{Fault}
 use Rattle.rules.specs.declared.answer.Needs.{Needs}
-use Rattle.rules.specs.declared.answer.Needs.TheVariants.{AtMost, Refused}
-use Rattle.rules.specs.Check.{demand, in_turn, instruction_at, good_input, check_graph, check_stores}
-use Rattle.rules.specs.Needs.{sum_below, rounds, firings_needed, outputs_needed, total, loop_free, check_needs, inputs_of, needs_unless_refused, needs}
+use Rattle.rules.specs.Check.{◌and_then◌, demand, in_turn, instruction_at, good_input, check_graph, check_stores, Checked}
+use Rattle.rules.specs.Needs.{sum_below, rounds, firings_needed, outputs_needed, total, loop_free, check_needs, inputs_of, needs_at_most, needs}
 use Rattle.rules.proofs.Passed.{and_then_passed}
 use Rattle.rules.proofs.PassedGraph.{at_most}
 use Rattle.rules.proofs.Accepted.{whole_bytes, stores_whole}
 use Rattle.rules.proofs.Small.{Below, demand_below, then_below, turn_below, graph_below, stores_below}
 
-abbrev pub Small : Needs → Type 0
-Small (AtMost firings tokens) = (firings ≤ 256) × (tokens ≤ 2560)
-Small (Refused r place) = place < most_tokens
+abbrev pub Small : Result Needs Fault → Type 0
+Small (Ok n) = (n.firings ≤ 256) × (n.tokens ≤ 2560)
+Small (Err fault) = fault.place < most_tokens
 
 -- ---- the bounds
 
@@ -71,10 +70,10 @@ two_outputs r = go (eqb r.code 5)
 -- ---- the places
 
 module _ (graph inputs : List ℕ) where
-  few_records : check_graph graph ≡ Passed → length (graph_of graph) ≤ 256
+  few_records : check_graph graph ≡ Ok tt → length (graph_of graph) ≤ 256
   few_records e = omega (arith, at_most graph e, length_rows graph_width Graph.decode_instruction (length graph / graph_width) graph)
 
-  few_inputs_lem : check_stores (length inputs) 0 0 0 ≡ Passed → length inputs / token_width ≤ most_tokens
+  few_inputs_lem : check_stores (length inputs) 0 0 0 ≡ Ok tt → length inputs / token_width ≤ most_tokens
   few_inputs_lem e = (whole_bytes token_width most_tokens (length inputs) (stores_whole (length inputs) 0 0 0 e).whole_inputs).1
 
   check_below : Below (check_needs graph inputs)
@@ -88,7 +87,7 @@ module _ (graph inputs : List ℕ) where
       (turn_below (λ i good. demand good BadInput i) (λ i good h. demand_below good BadInput i (λ k. h)) 0 goods (omega (arith, few_inputs_lem f, length_rows token_width (good_input (graph_of graph)) n inputs)))
       (λ k. turn_below (λ i r. demand (loop_free r) NotLoopFree i) (λ i r h. demand_below (loop_free r) NotLoopFree i (λ l. h)) 0 (graph_of graph) (omega (arith, few_records e)))))
 
-  passed_small : check_needs graph inputs ≡ Passed → Small (AtMost (total (inputs_of inputs) (graph_of graph) firings_needed) (length (inputs_of inputs) + total (inputs_of inputs) (graph_of graph) outputs_needed))
+  passed_small : check_needs graph inputs ≡ Ok tt → Small (needs_at_most (total (inputs_of inputs) (graph_of graph) firings_needed) (length (inputs_of inputs) + total (inputs_of inputs) (graph_of graph) outputs_needed))
   unfolding check_needs
   passed_small e =
       let parts = and_then_passed (check_graph graph) _ e in
@@ -103,6 +102,6 @@ module _ (graph inputs : List ℕ) where
   needs_small = go (check_needs graph inputs) refl
     where
       go : (c : Checked) → check_needs graph inputs ≡ c
-          → Small (needs_unless_refused c (AtMost (total (inputs_of inputs) (graph_of graph) firings_needed) (length (inputs_of inputs) + total (inputs_of inputs) (graph_of graph) outputs_needed)))
-      go Passed e = passed_small e
-      go (Failed r p) e = rw e at check_below
+          → Small (c and_then needs_at_most (total (inputs_of inputs) (graph_of graph) firings_needed) (length (inputs_of inputs) + total (inputs_of inputs) (graph_of graph) outputs_needed))
+      go (Ok _) e = passed_small e
+      go (Err fault) e = rw e at check_below

@@ -5,8 +5,7 @@ use Rattle.buffer.specs.Rows.{whole}
 use Rattle.record.specs.TokensAndTags.{most_tokens, capacity_of}
 use Rattle.record.specs.Widths.{token_width}
 use Rattle.machine.specs.Orders.{Quiescent}
-use Rattle.rules.specs.declared.answer.Needs.TheVariants.{AtMost}
-use Rattle.rules.specs.Needs.{needs, NoSwitchOrFetch}
+use Rattle.rules.specs.Needs.{needs, needs_at_most, NoSwitchOrFetch}
 use Rattle.rules.specs.Log.{log_suffices}
 use Rattle.rules.specs.Orders.{Allowed}
 use Rattle.rules.specs.Runs.{LentToLogged, LeftByLogged, LoggedOn, lent_beside_log, left_beside_log, outcome_in}
@@ -16,11 +15,11 @@ use Rattle.bounds.specs.Capacity.{SameEnd, RefusedBy8}
 
 -- whatever log is lent
 abbrev pub NoLoggedExceeds : Type 0
-NoLoggedExceeds = (graph arrays inputs : List ℕ) (firings tokens : ℕ) → needs graph inputs ≡ AtMost firings tokens
+NoLoggedExceeds = (graph arrays inputs : List ℕ) (firings tokens : ℕ) → needs graph inputs ≡ needs_at_most firings tokens
     → (l : LentToLogged) (x : LeftByLogged) → LoggedOn graph arrays inputs l x → (x.answer.firings ≤ firings) × (x.answer.tokens ≤ tokens)
 
 abbrev pub LoggedExact : Type 0
-LoggedExact = (graph arrays inputs : List ℕ) (firings tokens : ℕ) → needs graph inputs ≡ AtMost firings tokens → NoSwitchOrFetch graph inputs
+LoggedExact = (graph arrays inputs : List ℕ) (firings tokens : ℕ) → needs graph inputs ≡ needs_at_most firings tokens → NoSwitchOrFetch graph inputs
     → (l : LentToLogged) (x : LeftByLogged) → LoggedOn graph arrays inputs l x → Quiescent (outcome_in x.answer.outcome) → (x.answer.firings ≡ firings) × (x.answer.tokens ≡ tokens)
 
 -- ---- R-12: the other run's log suffices too

@@ -7,7 +7,7 @@ ghost use Rattle.rules.specs.Needs.{loop_free, check_needs};
 use checks::{graph, stores};
 use record::instruction;
 use record::instruction::Instruction;
-use rules::answer::{Checked, Refusal};
+use rules::answer::{Fault, Refusal};
 
 fn is_loop_free(r: Instruction) -> bool
     ensures { result ≡ loop_free r }
@@ -16,34 +16,23 @@ fn is_loop_free(r: Instruction) -> bool
 }
 
 // 19: the first NEXT, ENTER or LEAVE.
-fn loop_free(graph: &[u8]) -> Checked
+fn loop_free(graph: &[u8]) -> Result<(), Fault>
     ensures { result ≡ in_turn (λ i r. demand (loop_free r) Refusal.NotLoopFree i) 0 (graph_of graph.now) }
 {
-    let mut i = 0;
-    while i < graph.len() / instruction::WIDTH {
+    for i in 0..graph.len() / instruction::WIDTH {
         let r = instruction::instruction_at(graph, i);
         if !is_loop_free(r) {
-            return Checked::Failed(Refusal::NotLoopFree, i);
+            return Err(Refusal::NotLoopFree.at(i));
         }
-        i += 1;
     }
-    Checked::Passed
+    Ok(())
 }
 
-pub fn check(graph: &[u8], inputs: &[u8]) -> Checked
+pub fn check(graph: &[u8], inputs: &[u8]) -> Result<(), Fault>
     ensures { result ≡ check_needs graph.now inputs.now }
 {
-    let of_graph = graph::check(graph);
-    let Checked::Passed = of_graph else {
-        return of_graph;
-    };
-    let of_store = stores::check(inputs.len(), 0, 0, 0);
-    let Checked::Passed = of_store else {
-        return of_store;
-    };
-    let of_inputs = check_inputs::fields(graph, inputs);
-    let Checked::Passed = of_inputs else {
-        return of_inputs;
-    };
+    graph::check(graph)?;
+    stores::check(inputs.len(), 0, 0, 0)?;
+    check_inputs::fields(graph, inputs)?;
     loop_free(graph)
 }

@@ -43,14 +43,12 @@ pub fn total(graph: &[u8], reached: &[bool; 256]) -> Totals
 {
     let mut firings = 0;
     let mut outputs = 0;
-    let mut i = 0;
-    while i < graph.len() / instruction::WIDTH {
+    for i in 0..graph.len() / instruction::WIDTH {
         if reached[i] {
             let r = instruction::instruction_at(graph, i);
             firings += firings_of(r);
             outputs += outputs_of(r);
         }
-        i += 1;
     }
     Totals { firings, outputs }
 }

@@ -6,34 +6,30 @@ mod check;
 mod count;
 mod reach;
 
-ghost use Rattle.std.specs.Prelude.{◌≡◌};
-ghost use Rattle.rules.specs.declared.answer.Checked.TheVariants as Checks;
+ghost use Rattle.std.specs.Prelude.{◌≡◌, Ok};
 ghost use Rattle.rules.specs.Needs.{check_needs, needs, Bounded};
 
 use record::token;
-use rules::answer::{Checked, Needs};
+use rules::answer::{Fault, Needs};
 
 // The bounds of a graph and inputs that passed.
 fn at_most(graph: &[u8], inputs: &[u8]) -> Needs
-    requires { check_needs graph.now inputs.now ≡ Checks.Passed }
-    ensures { result ≡ needs graph.now inputs.now }
+    requires { check_needs graph.now inputs.now ≡ Ok tt }
+    ensures { Ok result ≡ needs graph.now inputs.now }
 {
     let mut sent = reach::given(inputs);
     let reached = reach::reach(graph, &mut sent);
     let totals = count::total(graph, &reached);
-    Needs::AtMost {
+    Needs {
         firings: totals.firings,
         tokens: inputs.len() / token::WIDTH + totals.outputs,
     }
 }
 
 // What no run from these inputs exceeds, or why there are no bounds.
-pub fn bounds(graph: &[u8], inputs: &[u8]) -> Needs
+pub fn bounds(graph: &[u8], inputs: &[u8]) -> Result<Needs, Fault>
     ensures { Bounded (needs graph.now inputs.now) result }
 {
-    let checked = check::check(graph, inputs);
-    match checked {
-        Checked::Passed => at_most(graph, inputs),
-        Checked::Failed(r, place) => Needs::Refused(r, place),
-    }
+    check::check(graph, inputs)?;
+    Ok(at_most(graph, inputs))
 }

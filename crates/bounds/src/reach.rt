@@ -1,11 +1,10 @@
 // What is reached: a table of ports, two entries for each instruction, and one of instructions.
-ghost use Rattle.std.specs.Prelude.{◌≡◌, Bool, false, ◌||◌, List, ℕ, ◌+◌, ◌/◌, ◌≤◌, ◌<◌, length, get_or};
+ghost use Rattle.std.specs.Prelude.{◌≡◌, Bool, false, ◌||◌, List, ℕ, ◌+◌, ◌/◌, ◌≤◌, ◌<◌, length, get_or, Ok};
 ghost use Rattle.buffer.specs.Rows.{All};
 ghost use Rattle.record.specs.declared.token.Token.{Token};
 ghost use Rattle.record.specs.GraphRecords.{graph_of, destinations};
 ghost use Rattle.record.specs.TokensAndTags.{token_at};
 ghost use Rattle.record.specs.Widths.{graph_width, token_width};
-ghost use Rattle.rules.specs.declared.answer.Checked.TheVariants.{Passed};
 ghost use Rattle.rules.specs.Check.{operands_at, check_graph};
 ghost use Rattle.rules.specs.Needs.{all_below, inputs_of};
 ghost use Rattle.rules.specs.Needs as Needs;
@@ -27,8 +26,7 @@ pub fn given(inputs: &[u8]) -> [bool; 512]
     ensures { Ports (sent_by_inputs (inputs_of inputs.now)) result }
 {
     let mut sent = [false; 512];
-    let mut i = 0;
-    while i < inputs.len() / token::WIDTH {
+    for i in 0..inputs.len() / token::WIDTH {
         let t = token::token_at(inputs, i);
         let tag = t.tag;
         let at = entry(Destination {
@@ -36,7 +34,6 @@ pub fn given(inputs: &[u8]) -> [bool; 512]
             port: t.port,
         });
         sent[at] = true;
-        i += 1;
     }
     sent
 }
@@ -75,7 +72,7 @@ fn ready(graph: &[u8], sent: &[bool; 512], i: usize) -> bool
 
 // Adds instruction i where it is ready, and marks the ports that it sends to; whether it was added.
 fn add(graph: &[u8], sent: &mut [bool; 512], reached: &mut [bool; 256], i: usize) -> bool
-    requires { (check_graph graph.now ≡ Passed) × (i < length graph.now / graph_width) }
+    requires { (check_graph graph.now ≡ Ok tt) × (i < length graph.now / graph_width) }
     ensures { (ts : List Token) (before : List Bool) (added : Bool)
         → Round ts (graph_of graph.now) i before sent.old reached.old added
         → Round ts (graph_of graph.now) (i + 1) before sent.new reached.new (added || result) }
@@ -93,18 +90,16 @@ fn add(graph: &[u8], sent: &mut [bool; 512], reached: &mut [bool; 256], i: usize
 
 // Adds each instruction that is ready; whether any was added.
 fn round(graph: &[u8], sent: &mut [bool; 512], reached: &mut [bool; 256]) -> bool
-    requires { check_graph graph.now ≡ Passed }
+    requires { check_graph graph.now ≡ Ok tt }
     ensures { (ts : List Token)
         → ReachedSoFar ts (graph_of graph.now) sent.old reached.old
         → Round ts (graph_of graph.now) (length (graph_of graph.now)) reached.old sent.new reached.new result }
 {
     let mut added = false;
-    let mut i = 0;
-    while i < graph.len() / instruction::WIDTH {
+    for i in 0..graph.len() / instruction::WIDTH {
         if add(graph, sent, reached, i) {
             added = true;
         }
-        i += 1;
     }
     added
 }
@@ -112,16 +107,14 @@ fn round(graph: &[u8], sent: &mut [bool; 512], reached: &mut [bool; 256]) -> boo
 // The reached instructions, where `sent` has the ports that inputs send to. A round that adds none is
 // the last: no other would add any.
 pub fn reach(graph: &[u8], sent: &mut [bool; 512]) -> [bool; 256]
-    requires { check_graph graph.now ≡ Passed }
+    requires { check_graph graph.now ≡ Ok tt }
     ensures { (ts : List Token) → Ports (sent_by_inputs ts) sent.old → (i : ℕ) → flag result i ≡ Needs.reached ts (graph_of graph.now) i }
 {
     let mut reached = [false; 256];
-    let mut rounds = 0;
-    while rounds < graph.len() / instruction::WIDTH {
+    for _ in 0..graph.len() / instruction::WIDTH {
         if !round(graph, sent, &mut reached) {
             return reached;
         }
-        rounds += 1;
     }
     reached
 }

@@ -4,33 +4,27 @@
 ghost use Rattle.std.specs.Prelude.{◌/◌, ◌≤◌, ◌<◌, length};
 ghost use Rattle.record.specs.Widths.{graph_width, token_width};
 
-use console::{say, say_decimal};
 use record::instruction::{Destination, Instruction};
 use record::tag::Tag;
 use record::token::{Content, Token};
 use record::{instruction, token};
 use rules::answer;
-use rules::answer::Needs;
 use std::io;
 
-fn say_number(rt: &impl Print, text: &[u8], n: usize) -> io::Result<()> {
-    say(rt, text)?;
-    say_decimal(rt, n as u64)
-}
-
-fn say_bounds(rt: &impl Print, name: &[u8], graph: &[u8], inputs: &[u8]) -> io::Result<()> {
-    say(rt, name)?;
-    let needs = bounds::bounds(graph, inputs);
-    match needs {
-        Needs::AtMost { firings, tokens } => {
-            say_number(rt, b": at most ", firings)?;
-            say_number(rt, b" firings and ", tokens)?;
-            say(rt, b" tokens\n")?;
+fn say_bounds(rt: &impl Print, name: &str, graph: &[u8], inputs: &[u8]) -> io::Result<()> {
+    match bounds::bounds(graph, inputs) {
+        Ok(needs) => {
+            println!(rt;
+                "{name}: at most {} firings and {} tokens",
+                needs.firings, needs.tokens
+            )?;
         }
-        Needs::Refused(r, place) => {
-            say_number(rt, b": refused ", answer::number(r) as usize)?;
-            say_number(rt, b" at ", place)?;
-            say(rt, b"\n")?;
+        Err(fault) => {
+            println!(rt;
+                "{name}: refused {} at {}",
+                answer::number(fault.refusal),
+                fault.place
+            )?;
         }
     }
     Ok(())
@@ -86,20 +80,15 @@ fn say_sums(rt: &impl Print) -> io::Result<()> {
     put(&mut graph, 1, 3, 0, 0);
     put_input(&mut inputs, 0, 0, 0, 7);
     put_input(&mut inputs, 1, 0, 1, -9);
-    say_bounds(rt, b"ADD", &graph, &inputs)?;
+    say_bounds(rt, "ADD", &graph, &inputs)?;
+    say_bounds(rt, "ADD with one operand", &graph, &inputs[0..token::WIDTH])?;
     say_bounds(
         rt,
-        b"ADD with one operand",
-        &graph,
-        &inputs[0..token::WIDTH],
-    )?;
-    say_bounds(
-        rt,
-        b"inputs not whole",
+        "inputs not whole",
         &graph,
         &inputs[0..2 * token::WIDTH - 1],
     )?;
-    say_bounds(rt, b"no graph", &graph[0..0], &inputs)
+    say_bounds(rt, "no graph", &graph[0..0], &inputs)
 }
 
 // SWITCH to two COPYs to one OUT.
@@ -112,11 +101,11 @@ fn say_switch(rt: &impl Print) -> io::Result<()> {
     put(&mut graph, 3, 3, 0, 0);
     put_input(&mut inputs, 0, 0, 0, 7);
     put_input(&mut inputs, 1, 0, 1, 0);
-    say_bounds(rt, b"SWITCH", &graph, &inputs)
+    say_bounds(rt, "SWITCH", &graph, &inputs)
 }
 
 // COPY to an operation of that code to OUT, with an input to this instruction.
-fn say_through(rt: &impl Print, name: &[u8], code: u8, to: u16) -> io::Result<()> {
+fn say_through(rt: &impl Print, name: &str, code: u8, to: u16) -> io::Result<()> {
     let mut graph = [0u8; 3 * instruction::WIDTH];
     let mut inputs = [0u8; token::WIDTH];
     put(&mut graph, 0, 1, 1, 0);
@@ -133,7 +122,7 @@ fn say_leave(rt: &impl Print) -> io::Result<()> {
     put(&mut graph, 0, 1, 1, 0);
     put(&mut graph, 1, 9, 0, 0);
     put_input(&mut inputs, 0, 0, 0, 7);
-    say_bounds(rt, b"LEAVE", &graph, &inputs)
+    say_bounds(rt, "LEAVE", &graph, &inputs)
 }
 
 // Each record sends to the one before it, the first is OUT.
@@ -142,12 +131,10 @@ fn put_chain(graph: &mut [u8])
 {
     let mut code = 3;
     let mut to = 0;
-    let mut i = 0;
-    while i < graph.len() / instruction::WIDTH {
+    for i in 0..graph.len() / instruction::WIDTH {
         put(graph, i, code, to, 0);
         code = 1;
         to = i as u16;
-        i += 1;
     }
 }
 
@@ -157,15 +144,15 @@ fn say_chain(rt: &impl Print) -> io::Result<()> {
     let mut inputs = [0u8; token::WIDTH];
     put_chain(&mut graph);
     put_input(&mut inputs, 0, 255, 0, 7);
-    say_bounds(rt, b"chain in falling order", &graph, &inputs)
+    say_bounds(rt, "chain in falling order", &graph, &inputs)
 }
 
 fn main(rt: HostRuntime) -> io::Result<()> {
     say_sums(&rt)?;
     say_switch(&rt)?;
-    say_through(&rt, b"NEXT", 7, 0)?;
-    say_through(&rt, b"NEXT and an input to 9", 7, 9)?;
-    say_through(&rt, b"COPY in its place", 1, 0)?;
+    say_through(&rt, "NEXT", 7, 0)?;
+    say_through(&rt, "NEXT and an input to 9", 7, 9)?;
+    say_through(&rt, "COPY in its place", 1, 0)?;
     say_leave(&rt)?;
     say_chain(&rt)
 }

@@ -22,25 +22,13 @@ pub fn row_at(s: &[u8], width: usize, i: usize) -> &[u8]
     &s[at..]
 }
 
-// Copies src into dst, which is as long.
-fn fill(dst: &mut [u8], src: &[u8])
-    requires { length dst.old ≡ length src.now }
-    ensures { dst.new ≡ src.now }
-{
-    let mut i = 0;
-    while i < src.len() {
-        dst[i] = src[i];
-        i += 1;
-    }
-}
-
 // Writes src into buf from `at` on; every other byte stays.
 pub fn write_at(buf: &mut [u8], at: usize, src: &[u8])
     requires { at + length src.now ≤ length buf.old }
     ensures { buf.new ≡ written buf.old at src.now }
 {
     let end = at + src.len();
-    fill(&mut buf[at..end], src);
+    buf[at..end].copy_from_slice(src);
 }
 
 // Writes a record as record i; every other byte stays.

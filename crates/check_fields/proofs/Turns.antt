@@ -1,18 +1,18 @@
 -- Lists gone through in turn: `in_turn`, `any` and `all` of the rules, one element further. Assumes nothing.
+use Rattle.std.proofs.Common.{Result, Ok, Err, IsErr, IsErrAnd}
+use Rattle.std.proofs.lemmas.Result.{err_from_is_err_and}
 use Prim.Native.Nat.{ℕ, zero, suc, ◌+◌, ◌≤◌, ◌<◌}
 use native.Mathlib.Numerals.{add-one}
 use native.Mathlib.Omega.{arith}
 use native.Mathlib.Nat.{add-zero, add-suc, suc-add, le_of_suc-le-suc}
-use mathlib.Core.Path.{◌≡◌, refl}
+use mathlib.Core.Path.{◌≡◌, refl, ap, ◌∙◌}
 use mathlib.Core.Bool.{Bool, true, false, ◌&&◌, ◌||◌}
 use mathlib.Core.List.{List, [], ◌∷◌, ◌++◌}
 use lib.ListN.{length, get_or, take, drop, drop_of_length-le}
 use lib.Dec.{T}
 use lib.Seq.{take-suc, drop-cons}
-use Rattle.rules.specs.declared.answer.Refusal.{Refusal}
-use Rattle.rules.specs.declared.answer.Checked.{Checked}
-use Rattle.rules.specs.declared.answer.Checked.TheVariants.{Passed, Failed}
-use Rattle.rules.specs.Check.{◌and_then◌, all, any, in_turn}
+use Rattle.rules.specs.declared.answer.Fault.{Fault}
+use Rattle.rules.specs.Check.{◌and_then◌, all, any, in_turn, Checked}
 pub use mathlib.Core.Bool.{and-true, or-false}
 pub use Rattle.rules.proofs.Passed.{and_then_passed as both-passed, demand_passed as demanded}
 
@@ -38,11 +38,11 @@ module _ {A : Type 0} where
       → in_turn f i (drop i xs) ≡ c and_then in_turn f (i + 1) (drop (i + 1) xs)
   turn f xs i x h g e = rw (add-one i, drop-cons xs i x h, g, e)
 
-  pub turn_end : (f : ℕ → A → Checked) (xs : List A) (i : ℕ) → length xs ≤ i → in_turn f i (drop i xs) ≡ Passed
+  pub turn_end : (f : ℕ → A → Checked) (xs : List A) (i : ℕ) → length xs ≤ i → in_turn f i (drop i xs) ≡ Ok tt
   turn_end f xs i h = rw (drop_of_length-le xs h)
 
   -- where all passed, each did
-  pub each_passed : (f : ℕ → A → Checked) (k : ℕ) (xs : List A) → in_turn f k xs ≡ Passed → (i : ℕ) → i < length xs → (d : A) → f (k + i) (get_or xs i d) ≡ Passed
+  pub each_passed : (f : ℕ → A → Checked) (k : ℕ) (xs : List A) → in_turn f k xs ≡ Ok tt → (i : ℕ) → i < length xs → (d : A) → f (k + i) (get_or xs i d) ≡ Ok tt
   each_passed f k [] e i h d = absurd (omega arith)
   each_passed f k (x ∷ xs) e zero h d = rw (add-zero k) (both-passed (f k x) (in_turn f (suc k) xs) e).0
   each_passed f k (x ∷ xs) e (suc i) h d =
@@ -75,6 +75,6 @@ module _ {A : Type 0} where
   pub take_next : (xs : List A) (i : ℕ) (x : A) → i < length xs → get_or xs i x ≡ x → take (i + 1) xs ≡ take i xs ++ x ∷ []
   take_next xs i x h g = rw (add-one i, take-suc xs i x h, g)
 
--- a refusal is not looked past
-pub stopped : (a b : Checked) (r : Refusal) (p : ℕ) → a ≡ Failed r p → a ≡ (a and_then b)
-stopped a b r p e = rw e
+-- a `?` hands the fault on as it is
+pub handed_on : {A : Type 0} {r : Result A Fault} {fault : Fault} → IsErr r × IsErrAnd r (λ e. e ≡ fault) → r ≡ Err fault
+handed_on {A} {r} h = let p = err_from_is_err_and r h.1 in p.1 ∙ ap Err p.2

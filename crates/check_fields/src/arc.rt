@@ -6,18 +6,12 @@ ghost use Rattle.rules.specs.Check.{operands_at, good_arc, all};
 use record::instruction::{Destination, Instruction};
 use record::{instruction, operation};
 
-fn wide(x: u16) -> usize
-    ensures { result ≡ x }
-{
-    x as usize
-}
-
 // The operand count of an instruction, 0 for an absent one.
 pub fn operands_at(counts: &[u8; 256], graph: &[u8], i: u16) -> u8
     requires { OperandCounts counts.now }
     ensures { result ≡ operands_at (graph_of graph.now) i }
 {
-    let at = wide(i);
+    let at = i as usize;
     if at < graph.len() / instruction::WIDTH {
         operation::count_of(counts, graph[at * instruction::WIDTH])
     } else {

@@ -8,17 +8,11 @@ ghost use Rattle.check_fields.specs.Sites.{small_of, is_other, Sites, at_site};
 use crate::constant;
 use record::instruction::{Destination, Instruction};
 
-fn wide(x: u16) -> u32
-    ensures { result ≡ x }
-{
-    x as u32
-}
-
 // Whether a table's entry is another return.
 fn other(entry: u32, i: u16) -> bool
     ensures { result ≡ is_other entry i }
 {
-    entry != 0 && entry - 1 != wide(i)
+    entry != 0 && entry - 1 != i as u32
 }
 
 // Of an ENTER: the site, the return's port, and the returns of the records before.
@@ -53,6 +47,6 @@ pub fn note(sites: &mut [u32; 256], r: Instruction)
     }
     let site = constant::small(r.constant);
     if site < 256 {
-        sites[site] = wide(back.instruction) + 1;
+        sites[site] = back.instruction as u32 + 1;
     }
 }

@@ -8,8 +8,7 @@ use Rattle.buffer.specs.Rows.{all_rows}
 use Rattle.record.specs.TokensAndTags.{decode_token, stands_at}
 use Rattle.record.specs.Widths.{token_width}
 use Rattle.rules.specs.declared.answer.Refusal.TheVariants.{BadInput, SecondToken}
-use Rattle.rules.specs.declared.answer.Checked.{Checked}
-use Rattle.rules.specs.Check.{demand, any, in_turn, good_input, second_input}
+use Rattle.rules.specs.Check.{demand, any, in_turn, good_input, second_input, Checked}
 
 -- the tokens of the inputs' bytes
 abbrev pub input_tokens : List ℕ → List Token

@@ -12,7 +12,7 @@ use check_fields::arc;
 use record::tag::Tag;
 use record::token::Token;
 use record::{operation, tag, token};
-use rules::answer::{Checked, Refusal};
+use rules::answer::{Fault, Refusal};
 
 // Of the record that s starts with: root path and iteration, state 0, zeros.
 fn is_input(s: &[u8]) -> bool
@@ -34,18 +34,16 @@ fn good(counts: &[u8; 256], graph: &[u8], s: &[u8]) -> bool
 }
 
 // 6, the inputs in turn.
-pub fn fields(graph: &[u8], inputs: &[u8]) -> Checked
+pub fn fields(graph: &[u8], inputs: &[u8]) -> Result<(), Fault>
     ensures { result ≡ check_fields (graph_of graph.now) inputs.now }
 {
     let counts = operation::counts();
-    let mut i = 0;
-    while i < inputs.len() / token::WIDTH {
+    for i in 0..inputs.len() / token::WIDTH {
         if !good(&counts, graph, buffer::row_at(inputs, token::WIDTH, i)) {
-            return Checked::Failed(Refusal::BadInput, i);
+            return Err(Refusal::BadInput.at(i));
         }
-        i += 1;
     }
-    Checked::Passed
+    Ok(())
 }
 
 // Whether one of the first n tokens stands at a port of a tag.
@@ -53,12 +51,10 @@ fn taken(inputs: &[u8], n: usize, tag: Tag, port: u8) -> bool
     requires { n ≤ length inputs.now / token_width }
     ensures { result ≡ any (stands_at tag port) (take n (input_tokens inputs.now)) }
 {
-    let mut j = 0;
-    while j < n {
+    for j in 0..n {
         if token::stands_at(token::token_at(inputs, j), tag, port) {
             return true;
         }
-        j += 1;
     }
     false
 }
@@ -82,32 +78,27 @@ fn is_second(inputs: &[u8], i: usize, t: Token, mark: u8) -> bool
 
 // 9, by input in turn, against the inputs before it. An entry of `seen` is 0 where no token stands yet, so that the inputs
 // before are looked through only where the entry is taken.
-fn second(inputs: &[u8]) -> Checked
+fn second(inputs: &[u8]) -> Result<(), Fault>
     ensures { result ≡ check_second inputs.now }
 {
     let mut seen = [0u8; 512];
-    let mut i = 0;
-    while i < inputs.len() / token::WIDTH {
+    for i in 0..inputs.len() / token::WIDTH {
         let t = token::token_at(inputs, i);
         let at = entry(t);
         if is_second(inputs, i, t, seen[at]) {
-            return Checked::Failed(Refusal::SecondToken, i);
+            return Err(Refusal::SecondToken.at(i));
         }
         seen[at] = 1;
-        i += 1;
     }
-    Checked::Passed
+    Ok(())
 }
 
-pub fn check(graph: &[u8], inputs: &[u8], capacity: usize) -> Checked
+pub fn check(graph: &[u8], inputs: &[u8], capacity: usize) -> Result<(), Fault>
     ensures { result ≡ check_inputs (graph_of graph.now) capacity inputs.now }
 {
-    let of_fields = fields(graph, inputs);
-    let Checked::Passed = of_fields else {
-        return of_fields;
-    };
+    fields(graph, inputs)?;
     if capacity < inputs.len() / token::WIDTH {
-        return Checked::Failed(Refusal::LedgerFull, capacity);
+        return Err(Refusal::LedgerFull.at(capacity));
     }
     second(inputs)
 }

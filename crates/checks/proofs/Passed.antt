@@ -1,4 +1,5 @@
 -- What a graph and what inputs have that passed their checks. Assumes nothing.
+use Rattle.std.proofs.Common.{Ok}
 use Prim.Native.Nat.{ℕ, ◌+◌, ◌*◌, ◌/◌, ◌%◌, ◌≤◌, ◌<◌}
 use native.Mathlib.Omega.{arith}
 use native.Mathlib.Nat.{zero-add}
@@ -21,7 +22,6 @@ use Rattle.record.specs.TokensAndTags as Tokens
 use Rattle.record.specs.Widths.{token_width, state_offset, cell_width, graph_width, pick_width, array_width}
 use Rattle.record.proofs.Paths.{root_words}
 use Rattle.rules.specs.declared.answer.Refusal.TheVariants.{GraphLength, BadInput, SecondToken}
-use Rattle.rules.specs.declared.answer.Checked.TheVariants.{Passed}
 use Rattle.rules.specs.Check.{demand, all, instruction_at, operands_at, fan_out_allowed, unused_are_zero, good_arc, good_site, check_record, check_graph, check_stores, check_arrays, good_input, second_input, check_inputs, check}
 use Rattle.check_inputs.specs.Inputs.{input_tokens}
 use Rattle.check_fields.proofs.Turns.{and_true_left, and_true_right, both-passed, demanded, each_passed}
@@ -37,7 +37,7 @@ pub record GoodRecord (g : List Instruction) (i : ℕ) (r : Instruction) : Type 
   pub arcs : all (good_arc g) (destinations r) ≡ true
   pub site : good_site (take i g) r ≡ true
 
-pub passed_record : (g : List Instruction) (i : ℕ) (r : Instruction) → check_record g i r ≡ Passed → GoodRecord g i r
+pub passed_record : (g : List Instruction) (i : ℕ) (r : Instruction) → check_record g i r ≡ Ok tt → GoodRecord g i r
 unfolding check_record
 passed_record g i r e =
     let a = both-passed _ _ e in
@@ -45,7 +45,7 @@ passed_record g i r e =
     let c = both-passed _ _ b.1 in
     record { known = demanded _ _ _ a.0; fields = demanded _ _ _ b.0; arcs = demanded _ _ _ c.0; site = demanded _ _ _ c.1 }
 
-module _ (l : List ℕ) (passed : check_graph l ≡ Passed) where
+module _ (l : List ℕ) (passed : check_graph l ≡ Ok tt) where
   -- 1 to 256 whole records
   pub passed_length : (1 ≤ length (graph_of l)) × (length (graph_of l) ≤ 256) × (length l ≡ length (graph_of l) * graph_width)
   unfolding check_graph
@@ -88,7 +88,7 @@ pub record GoodStores (inputs picks ledger cells : ℕ) : Type 0 where
 passed_whole : (width most n : ℕ) → whole width most n ≡ true → (n % width ≡ 0) × (n / width ≤ most)
 passed_whole width most n e = (eqb-true (n % width) 0 (and_true_left (eqb (n % width) 0) _ e), leb-true (n / width) most (and_true_right (eqb (n % width) 0) _ e))
 
-pub passed_stores : (inputs picks ledger cells : ℕ) → check_stores inputs picks ledger cells ≡ Passed → GoodStores inputs picks ledger cells
+pub passed_stores : (inputs picks ledger cells : ℕ) → check_stores inputs picks ledger cells ≡ Ok tt → GoodStores inputs picks ledger cells
 unfolding check_stores
 passed_stores inputs picks ledger cells e =
     let a = demanded _ _ _ e in
@@ -133,7 +133,7 @@ pub record GoodInputs (g : List Instruction) (capacity : ℕ) (inputs : List ℕ
   pub good : (i : ℕ) → i < length inputs / token_width → good_input g (drop (i * token_width) inputs) ≡ true
   pub alone : (i : ℕ) → i < length inputs / token_width → second_input (take i (input_tokens inputs)) (Tokens.token_at inputs i) ≡ false
 
-pub passed_inputs : (g : List Instruction) (capacity : ℕ) (inputs : List ℕ) → check_inputs g capacity inputs ≡ Passed → GoodInputs g capacity inputs
+pub passed_inputs : (g : List Instruction) (capacity : ℕ) (inputs : List ℕ) → check_inputs g capacity inputs ≡ Ok tt → GoodInputs g capacity inputs
 unfolding check_inputs
 passed_inputs g capacity inputs e =
     let a = both-passed _ _ e in
@@ -155,14 +155,14 @@ passed_inputs g capacity inputs e =
 -- ---- all of it
 
 -- a table that passed is short
-pub passed_arrays : (g : List Instruction) (cells : ℕ) (arrays : List ℕ) → check_arrays g cells arrays ≡ Passed → length arrays / array_width ≤ most_arrays
+pub passed_arrays : (g : List Instruction) (cells : ℕ) (arrays : List ℕ) → check_arrays g cells arrays ≡ Ok tt → length arrays / array_width ≤ most_arrays
 unfolding check_arrays
 passed_arrays g cells arrays e =
     let b = demanded _ _ _ (both-passed _ _ e).0 in
     (passed_whole array_width most_arrays (length arrays) (and_true_left (whole array_width most_arrays (length arrays)) _ b)).1
 
-pub passed_check : (graph arrays inputs picks : List ℕ) (ledger cells : ℕ) → check graph arrays inputs picks ledger cells ≡ Passed
-    → (check_graph graph ≡ Passed) × (check_stores (length inputs) (length picks) ledger cells ≡ Passed) × (check_inputs (graph_of graph) (ledger / token_width) inputs ≡ Passed)
+pub passed_check : (graph arrays inputs picks : List ℕ) (ledger cells : ℕ) → check graph arrays inputs picks ledger cells ≡ Ok tt
+    → (check_graph graph ≡ Ok tt) × (check_stores (length inputs) (length picks) ledger cells ≡ Ok tt) × (check_inputs (graph_of graph) (ledger / token_width) inputs ≡ Ok tt)
     × (length arrays / array_width ≤ most_arrays)
 unfolding check
 passed_check graph arrays inputs picks ledger cells e =

@@ -10,7 +10,7 @@ use check_fields::constant;
 use record::array::NamedArray;
 use record::instruction::Instruction;
 use record::{array, instruction};
-use rules::answer::{Checked, Refusal};
+use rules::answer::{Fault, Refusal};
 
 // Whether an array from a first cell on, of this length, ends in the store.
 fn ends_inside(first: u16, length: u16, cells: usize) -> bool
@@ -29,12 +29,10 @@ fn inside(a: NamedArray, cells: usize) -> bool
 fn all_inside(arrays: &[u8], cells: usize) -> bool
     ensures { result ≡ all (inside_store cells) (arrays_of arrays.now) }
 {
-    let mut i = 0;
-    while i < arrays.len() / array::WIDTH {
+    for i in 0..arrays.len() / array::WIDTH {
         if !inside(array::array_at(arrays, i), cells) {
             return false;
         }
-        i += 1;
     }
     true
 }
@@ -55,27 +53,25 @@ fn names_good(n: usize, r: Instruction) -> bool
 }
 
 // The instructions in turn, by the number of arrays.
-fn names(graph: &[u8], n: usize) -> Checked
+fn names(graph: &[u8], n: usize) -> Result<(), Fault>
     requires { n < 256 }
     ensures { result ≡ in_turn (λ i r. demand (names_good n r) Refusal.BadArray i) 0 (graph_of graph.now) }
 {
-    let mut i = 0;
-    while i < graph.len() / instruction::WIDTH {
+    for i in 0..graph.len() / instruction::WIDTH {
         if !names_good(n, instruction::instruction_at(graph, i)) {
-            return Checked::Failed(Refusal::BadArray, i);
+            return Err(Refusal::BadArray.at(i));
         }
-        i += 1;
     }
-    Checked::Passed
+    Ok(())
 }
 
 // By the number of cells.
-pub fn check(graph: &[u8], arrays: &[u8], cells: usize) -> Checked
+pub fn check(graph: &[u8], arrays: &[u8], cells: usize) -> Result<(), Fault>
     ensures { result ≡ check_arrays (graph_of graph.now) cells arrays.now }
 {
     if good(arrays, cells) {
         names(graph, arrays.len() / array::WIDTH)
     } else {
-        Checked::Failed(Refusal::BadArray, 0)
+        Err(Refusal::BadArray.at(0))
     }
 }

@@ -2,7 +2,7 @@
 ghost use Rattle.std.specs.Prelude.{◌≡◌};
 ghost use Rattle.rules.specs.Bounded.{good_bound, and_bound};
 
-use rules::answer::{Checked, Refusal};
+use rules::answer::{Fault, Refusal};
 
 // 02, R-9: from 2 to 256, or 0 for none.
 fn good(bound: usize) -> bool
@@ -12,15 +12,13 @@ fn good(bound: usize) -> bool
 }
 
 // After the check of the stores, which said `lent`.
-pub fn check(lent: Checked, bound: usize) -> Checked
+pub fn check(lent: Result<(), Fault>, bound: usize) -> Result<(), Fault>
     ensures { result ≡ and_bound lent bound }
 {
-    let Checked::Passed = lent else {
-        return lent;
-    };
+    lent?;
     if good(bound) {
-        Checked::Passed
+        Ok(())
     } else {
-        Checked::Failed(Refusal::BadBound, 0)
+        Err(Refusal::BadBound.at(0))
     }
 }

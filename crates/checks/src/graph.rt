@@ -7,29 +7,35 @@ ghost use Rattle.check_fields.specs.Sites.{Sites};
 use check_fields::{arc, fan_out, site};
 use record::instruction::Instruction;
 use record::{instruction, operation};
-use rules::answer::{Checked, Refusal};
+use rules::answer::{Fault, Refusal};
 
 // The first refusal of record i, by what each of 2 to 5 demands of it.
-fn first_fault(i: usize, known: bool, fields: bool, arcs: bool, site: bool) -> Checked
+fn first_fault(i: usize, known: bool, fields: bool, arcs: bool, site: bool) -> Result<(), Fault>
     ensures { result ≡ (demand known Refusal.UnknownOperation i and_then demand fields Refusal.FanOut i and_then demand arcs Refusal.BadArc i and_then demand site Refusal.BadSite i) }
 {
     if !known {
-        return Checked::Failed(Refusal::UnknownOperation, i);
+        return Err(Refusal::UnknownOperation.at(i));
     }
     if !fields {
-        return Checked::Failed(Refusal::FanOut, i);
+        return Err(Refusal::FanOut.at(i));
     }
     if !arcs {
-        return Checked::Failed(Refusal::BadArc, i);
+        return Err(Refusal::BadArc.at(i));
     }
     if !site {
-        return Checked::Failed(Refusal::BadSite, i);
+        return Err(Refusal::BadSite.at(i));
     }
-    Checked::Passed
+    Ok(())
 }
 
 // Record i: 2 to 5.
-fn record(counts: &[u8; 256], graph: &[u8], sites: &[u32; 256], i: usize, r: Instruction) -> Checked
+fn record(
+    counts: &[u8; 256],
+    graph: &[u8],
+    sites: &[u32; 256],
+    i: usize,
+    r: Instruction,
+) -> Result<(), Fault>
     requires { OperandCounts counts.now × Sites (take i (graph_of graph.now)) sites.now }
     ensures { result ≡ check_record (graph_of graph.now) i r }
 {
@@ -41,22 +47,17 @@ fn record(counts: &[u8; 256], graph: &[u8], sites: &[u32; 256], i: usize, r: Ins
 }
 
 // The records in turn.
-fn records(graph: &[u8]) -> Checked
+fn records(graph: &[u8]) -> Result<(), Fault>
     ensures { result ≡ in_turn (check_record (graph_of graph.now)) 0 (graph_of graph.now) }
 {
     let counts = operation::counts();
     let mut sites = [0u32; 256];
-    let mut i = 0;
-    while i < graph.len() / instruction::WIDTH {
+    for i in 0..graph.len() / instruction::WIDTH {
         let r = instruction::instruction_at(graph, i);
-        let checked = record(&counts, graph, &sites, i, r);
-        let Checked::Passed = checked else {
-            return checked;
-        };
+        record(&counts, graph, &sites, i, r)?;
         site::note(&mut sites, r);
-        i += 1;
     }
-    Checked::Passed
+    Ok(())
 }
 
 // 1: 1 to 256 whole records, by the length in bytes.
@@ -66,12 +67,12 @@ fn good_length(n: usize) -> bool
     1 <= n && buffer::whole(instruction::WIDTH, 256, n)
 }
 
-pub fn check(graph: &[u8]) -> Checked
+pub fn check(graph: &[u8]) -> Result<(), Fault>
     ensures { result ≡ check_graph graph.now }
 {
     if good_length(graph.len()) {
         records(graph)
     } else {
-        Checked::Failed(Refusal::GraphLength, 0)
+        Err(Refusal::GraphLength.at(0))
     }
 }

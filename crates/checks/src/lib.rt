@@ -16,20 +16,20 @@ ghost use Rattle.rules.specs.Check.{◌and_then◌, check_graph, check_arrays, c
 ghost use Rattle.rules.specs.Bounded.{check_bounded, check_bound_logged};
 
 use record::{cell, token};
-use rules::answer::Checked;
+use rules::answer::Fault;
 
 // What is checked before the inputs or a saved state: the graph, what the check of the stores and of the bound said, and the
 // table of named arrays for this number of cells. The order stands here, for every kind of run.
-pub fn check_lent(graph: &[u8], arrays: &[u8], lent: Checked, cells: usize) -> Checked
+pub fn check_lent(
+    graph: &[u8],
+    arrays: &[u8],
+    lent: Result<(), Fault>,
+    cells: usize,
+) -> Result<(), Fault>
     ensures { result ≡ (check_graph graph.now and_then lent and_then check_arrays (graph_of graph.now) cells arrays.now) }
 {
-    let of_graph = graph::check(graph);
-    let Checked::Passed = of_graph else {
-        return of_graph;
-    };
-    let Checked::Passed = lent else {
-        return lent;
-    };
+    graph::check(graph)?;
+    lent?;
     arrays::check(graph, arrays, cells)
 }
 
@@ -37,19 +37,16 @@ pub fn check_lent(graph: &[u8], arrays: &[u8], lent: Checked, cells: usize) -> C
 pub fn check_with(
     graph: &[u8],
     arrays: &[u8],
-    lent: Checked,
+    lent: Result<(), Fault>,
     inputs: &[u8],
     ledger: usize,
     cells: usize,
-) -> Checked
+) -> Result<(), Fault>
     ensures { result
         ≡ check_with graph.now arrays.now (cells / cell_width) lent
         (check_inputs (graph_of graph.now) (capacity_of ledger) inputs.now) }
 {
-    let before = check_lent(graph, arrays, lent, cells / cell::WIDTH);
-    let Checked::Passed = before else {
-        return before;
-    };
+    check_lent(graph, arrays, lent, cells / cell::WIDTH)?;
     check_inputs::check(graph, inputs, ledger / token::WIDTH)
 }
 
@@ -61,7 +58,7 @@ pub fn check(
     picks: &[u8],
     ledger: usize,
     cells: usize,
-) -> Checked
+) -> Result<(), Fault>
     ensures { result ≡ Rules.check graph.now arrays.now inputs.now picks.now ledger cells }
 {
     let of_stores = stores::check(inputs.len(), picks.len(), ledger, cells);
@@ -77,7 +74,7 @@ pub fn check_bounded(
     bound: usize,
     ledger: usize,
     cells: usize,
-) -> Checked
+) -> Result<(), Fault>
     ensures { result ≡ check_bounded graph.now arrays.now inputs.now picks.now bound ledger cells }
 {
     let of_stores = stores::check(inputs.len(), picks.len(), ledger, cells);
@@ -96,7 +93,7 @@ pub fn check_logged(
     ledger: usize,
     cells: usize,
     log: usize,
-) -> Checked
+) -> Result<(), Fault>
     ensures { result ≡ check_bound_logged graph.now arrays.now inputs.now picks.now budget bound ledger cells log }
 {
     let of_stores = stores::check_logged(inputs.len(), picks.len(), ledger, cells, budget, log);

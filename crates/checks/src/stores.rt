@@ -6,7 +6,7 @@ ghost use Rattle.rules.specs.Check.{check_stores};
 ghost use Rattle.rules.specs.Log.{log_suffices, check_log_stores};
 
 use record::{cell, log, pick, token};
-use rules::answer::{Checked, Refusal};
+use rules::answer::{Fault, Refusal};
 
 // Whether all four hold whole records, where a record of a token has `token` bytes and one of a cell `cell`: those of a range run have more.
 pub fn all_whole(
@@ -26,13 +26,13 @@ pub fn all_whole(
                 && buffer::whole(cell, cell::MOST, cells)))
 }
 
-pub fn check(inputs: usize, picks: usize, ledger: usize, cells: usize) -> Checked
+pub fn check(inputs: usize, picks: usize, ledger: usize, cells: usize) -> Result<(), Fault>
     ensures { result ≡ check_stores inputs picks ledger cells }
 {
     if all_whole(token::WIDTH, cell::WIDTH, inputs, picks, ledger, cells) {
-        Checked::Passed
+        Ok(())
     } else {
-        Checked::Failed(Refusal::BadStore, 0)
+        Err(Refusal::BadStore.at(0))
     }
 }
 
@@ -52,16 +52,13 @@ pub fn check_logged(
     cells: usize,
     budget: usize,
     log: usize,
-) -> Checked
+) -> Result<(), Fault>
     ensures { result ≡ check_log_stores inputs picks ledger cells budget log }
 {
-    let others = check(inputs, picks, ledger, cells);
-    let Checked::Passed = others else {
-        return others;
-    };
+    check(inputs, picks, ledger, cells)?;
     if log_suffices(budget, log) {
-        Checked::Passed
+        Ok(())
     } else {
-        Checked::Failed(Refusal::BadStore, 0)
+        Err(Refusal::BadStore.at(0))
     }
 }

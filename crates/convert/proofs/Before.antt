@@ -1,5 +1,6 @@
 -- R-8: a run that gave neither 7 nor 14 before it is the same with its inputs converted and buffers of as many records (`keeps_result`), and what it leaves in
 -- the ledger is converted (`keeps_ledger`); so is the log of one that writes a log (`keeps_logged`, `keeps_log`). Assumes nothing.
+use Rattle.std.proofs.Common.{Ok, Err}
 use Prim.Native.Nat.{ℕ, suc, ◌+◌, ◌*◌, ◌/◌, ◌%◌, ◌^◌, ◌≤◌, ◌<◌}
 use mathlib.Core.Path.{◌≡◌, refl, sym, ap, ◌∙◌, subst}
 use mathlib.Core.Bool.{Bool, true, false, ◌&&◌, cond}
@@ -17,7 +18,8 @@ use Rattle.buffer.specs.Rows.{rows, all_rows, whole, All}
 use Rattle.buffer.proofs.Tables.{length_joined}
 use Rattle.record.specs.declared.array.NamedArray.{NamedArray}
 use Rattle.record.specs.declared.tag.Tag.{Tag}
-use Rattle.record.specs.declared.tag.Left.TheVariants.{To, NoCaller}
+use Rattle.record.specs.declared.tag.Caller.{Caller}
+use Rattle.std.specs.Prelude.{Option, Some, None}
 use Rattle.record.specs.declared.token.Token as Record
 use Rattle.record.specs.declared.instruction.Instruction.{Instruction}
 use Rattle.record.specs.declared.instruction.Destination.{Destination}
@@ -28,6 +30,7 @@ use Rattle.record.specs.TokensAndTags.{is_input, most_tokens, capacity_of, root_
 use Rattle.record.specs.Calls.{leave_of}
 use Rattle.record.specs.Arrays.{arrays_of}
 use Rattle.record.specs.GraphRecords.{graph_of, operation_of, destinations}
+use Rattle.record.proofs.Calls.{same_caller}
 use Rattle.record.proofs.Paths.{number_words, root_number}
 use Rattle.record.proofs.Records.{length_token}
 use Rattle.record.specs.Logs as Logs
@@ -37,9 +40,7 @@ use Rattle.machine.specs.Sequences.{log_of}
 use Rattle.machine.proofs.Kept.{Each, OfToken, OfState, OfEffect, Keeps, run_keeps}
 use Rattle.rules.specs.declared.answer.Refusal.{Refusal}
 use Rattle.rules.specs.declared.answer.Refusal.TheVariants as Refusals
-use Rattle.rules.specs.declared.answer.Checked.{Checked}
-use Rattle.rules.specs.declared.answer.Checked.TheVariants.{Passed, Failed}
-use Rattle.rules.specs.Check.{demand, ◌and_then◌, within, instruction_at, check_graph, check_arrays, check_stores, check_inputs, check, good_input, most_cells}
+use Rattle.rules.specs.Check.{demand, ◌and_then◌, within, instruction_at, check_graph, check_arrays, check_stores, check_inputs, check, good_input, most_cells, Checked, fault_at}
 use Rattle.rules.specs.InstructionSet.{key_under, effect_in, machine_of}
 use Rattle.rules.specs.Run.{token_record, first_state, picks_of, ran_to, unless_failed, result, answer, ledger_after}
 use Rattle.rules.specs.Log.{LogResult, log_suffices, check_log_stores, check_logged, log_unless_failed, logged, log_after}
@@ -100,7 +101,7 @@ still_whole n e =
     rw (eq-eqb (as_many n % token_width) 0 rest, le-leb (as_many n / token_width) most_tokens (rw (records_count n) few))
 
 -- stores that passed pass with as many records
-same_stores : (inputs picks ledger cells : ℕ) → check_stores_before inputs picks ledger cells ≡ Passed → check_stores (as_many inputs) picks (as_many ledger) cells ≡ Passed
+same_stores : (inputs picks ledger cells : ℕ) → check_stores_before inputs picks ledger cells ≡ Ok tt → check_stores (as_many inputs) picks (as_many ledger) cells ≡ Ok tt
 unfolding check_stores_before check_stores
 same_stores inputs picks ledger cells e =
     let all = both (whole old_width most_tokens inputs) _ (demand_passed _ Refusals.BadStore 0 e) in
@@ -109,17 +110,17 @@ same_stores inputs picks ledger cells e =
     rw (still_whole inputs all.0, later.0, still_whole ledger last.0, last.1)
 
 -- a check of stores that did not pass gives 7
-by_stores : (inputs picks ledger cells : ℕ) → (check_stores_before inputs picks ledger cells ≡ Passed) ⊎ (check_stores_before inputs picks ledger cells ≡ Failed Refusals.BadStore 0)
+by_stores : (inputs picks ledger cells : ℕ) → (check_stores_before inputs picks ledger cells ≡ Ok tt) ⊎ (check_stores_before inputs picks ledger cells ≡ Err (fault_at Refusals.BadStore 0))
 unfolding check_stores_before
 by_stores inputs picks ledger cells =
     by (whole old_width most_tokens inputs && (whole pick_width most_tokens picks && (whole old_width most_tokens ledger && whole cell_width most_cells cells)))
   where
-    by : (b : Bool) → (demand b Refusals.BadStore 0 ≡ Passed) ⊎ (demand b Refusals.BadStore 0 ≡ Failed Refusals.BadStore 0)
+    by : (b : Bool) → (demand b Refusals.BadStore 0 ≡ Ok tt) ⊎ (demand b Refusals.BadStore 0 ≡ Err (fault_at Refusals.BadStore 0))
     by true = inl refl
     by false = inr refl
 
 -- the whole check, by what it says of the stores
-same_checks : (graph inputs : List ℕ) (ledger : ℕ) (named before after : Checked) → (check_graph graph ≡ Passed → before ≡ Passed) → (before ≡ Passed → after ≡ Passed)
+same_checks : (graph inputs : List ℕ) (ledger : ℕ) (named before after : Checked) → (check_graph graph ≡ Ok tt → before ≡ Ok tt) → (before ≡ Ok tt → after ≡ Ok tt)
     → (check_graph graph and_then after and_then named and_then check_inputs (graph_of graph) (capacity_of (as_many ledger)) (converted token_rest inputs))
     ≡ (check_graph graph and_then before and_then named and_then check_inputs_before (graph_of graph) (ledger / old_width) inputs)
 same_checks graph inputs ledger named before after passes also = go (check_graph graph) refl
@@ -129,8 +130,8 @@ same_checks graph inputs ledger named before after passes also = go (check_graph
 
     go : (c : Checked) → check_graph graph ≡ c
         → (c and_then after and_then named and_then check_inputs g (capacity_of (as_many ledger)) (converted token_rest inputs)) ≡ (c and_then before and_then named and_then check_inputs_before g (ledger / old_width) inputs)
-    go (Failed r p) e = refl
-    go Passed e = let stores = passes e in rw (also stores, stores, records_count ledger, same_inputs g (ledger / old_width) inputs)
+    go (Err fault) e = refl
+    go (Ok _) e = let stores = passes e in rw (also stores, stores, records_count ledger, same_inputs g (ledger / old_width) inputs)
 
 -- ---- a run
 
@@ -163,12 +164,12 @@ module _ (graph arrays inputs picks : List ℕ) (budget ledger cells : ℕ) wher
   same_run_lem h = as_freely Now (effect_before g (arrays_of arrays) (cells / cell_width)) Refusals.TooDeep (stricter g (arrays_of arrays) (cells / cell_width)) (by_picks Now) budget (picks_of picks) 0 first h
 
   module _ (allowed : Neither7Nor14 (answer (result_before graph arrays inputs picks budget ledger cells))) where
-    stores_passed : check_graph graph ≡ Passed → check_stores_before (length inputs) (length picks) ledger cells ≡ Passed
+    stores_passed : check_graph graph ≡ Ok tt → check_stores_before (length inputs) (length picks) ledger cells ≡ Ok tt
     unfolding result_before check_before unless_failed answer
     stores_passed p = go (by_stores (length inputs) (length picks) ledger cells)
       where
-        go : (check_stores_before (length inputs) (length picks) ledger cells ≡ Passed) ⊎ (check_stores_before (length inputs) (length picks) ledger cells ≡ Failed Refusals.BadStore 0)
-            → check_stores_before (length inputs) (length picks) ledger cells ≡ Passed
+        go : (check_stores_before (length inputs) (length picks) ledger cells ≡ Ok tt) ⊎ (check_stores_before (length inputs) (length picks) ledger cells ≡ Err (fault_at Refusals.BadStore 0))
+            → check_stores_before (length inputs) (length picks) ledger cells ≡ Ok tt
         go (inl e) = e
         go (inr e) = absurd (allowed.not7 0 (rw (p, e)))
 
@@ -183,8 +184,8 @@ module _ (graph arrays inputs picks : List ℕ) (budget ledger cells : ℕ) wher
     same_result = rw (same_check, records_count ledger, same_first inputs (cells / cell_width)) (go (check_before graph arrays inputs picks ledger cells) refl)
       where
         go : (c : Checked) → check_before graph arrays inputs picks ledger cells ≡ c → unless_failed c (ran_to (run Now budget (picks_of picks) first)) ≡ unless_failed c (ran_to (run Was budget (picks_of picks) first))
-        go (Failed r p) e = refl
-        go Passed e = ap ran_to (same_run_lem (λ place q. allowed.not14 place (rw (e, q)))).0
+        go (Err fault) e = refl
+        go (Ok _) e = ap ran_to (same_run_lem (λ place q. allowed.not14 place (rw (e, q)))).0
 
 pub keeps_result : KeepsResult
 keeps_result = same_result
@@ -204,7 +205,7 @@ under_all : (τ : Tag) → ShallowTag τ → (ds : List Destination) → Each Sh
 under_all τ h [] = tt
 under_all τ h (d ∷ ds) = (h, under_all τ h ds)
 
-left_shallow : (τ : Tag) (site : ℕ) (caller : Tag) → ShallowTag τ → leave_of τ ≡ To site caller → ShallowTag caller
+left_shallow : (τ : Tag) (site : ℕ) (caller : Tag) → ShallowTag τ → leave_of τ ≡ Some (record { site = site; tag = caller }) → ShallowTag caller
 unfolding leave_of
 left_shallow τ site caller h e = go (is_root τ.path) e
   where
@@ -214,9 +215,9 @@ left_shallow τ site caller h e = go (is_root τ.path) e
     parent : Tag
     parent = record { path = path_words (n / 65536); iteration = n % 256; instruction = τ.instruction }
 
-    go : (b : Bool) → cond b NoCaller (To (n / 256 % 256) parent) ≡ To site caller → ShallowTag caller
+    go : (b : Bool) → cond {A = Option Caller} b None (Some (record { site = n / 256 % 256; tag = parent })) ≡ Some (record { site = site; tag = caller }) → ShallowTag caller
     go true f = let z : ◌≡◌ {A = ℕ} 0 1 = cc in absurd (omega arith)
-    go false f = let z : parent ≡ caller = cc in subst ShallowTag z (rw (number_words (n / 65536)) (omega (arith, h.0)), omega arith)
+    go false f = let z = (same_caller f).1 in subst ShallowTag z (rw (number_words (n / 65536)) (omega (arith, h.0)), omega arith)
 
 one_level_more : (n site iteration : ℕ) → n < 65536 ^ 3 → site < 256 → iteration < 256 → n * 65536 + site * 256 + iteration < 65536 ^ 4
 one_level_more n site iteration h s i = omega arith
@@ -226,7 +227,7 @@ unfolding within
 byte_site (pos n) e = omega (arith, leb-true n 255 (both (leb 0 n) (leb n 255) e).1)
 byte_site (negsuc n) e = let z : ◌≡◌ {A = ℕ} 0 1 = cc in absurd (omega arith)
 
-module _ (graph : List ℕ) (passed : check_graph graph ≡ Passed) (table : List NamedArray) (capacity cells : ℕ) where
+module _ (graph : List ℕ) (passed : check_graph graph ≡ Ok tt) (table : List NamedArray) (capacity cells : ℕ) where
   abbrev gr : List Instruction
   gr = graph_of graph
 
@@ -270,7 +271,7 @@ module _ (graph : List ℕ) (passed : check_graph graph ≡ Passed) (table : Lis
       by τ v w h true e = tt
       by τ v w h false e = effect_asked gr table capacity cells Shallow Any Any τ (asked τ h e) v w tt tt
 
-  first_shallow : (inputs : List ℕ) → check_inputs gr capacity (converted token_rest inputs) ≡ Passed → OfState N Shallow Any Any (first_state_before inputs cells)
+  first_shallow : (inputs : List ℕ) → check_inputs gr capacity (converted token_rest inputs) ≡ Ok tt → OfState N Shallow Any Any (first_state_before inputs cells)
   first_shallow inputs e =
       let o = rw (same_first inputs cells) at (start_keys gr table capacity cells Shallow Any (converted token_rest inputs) (λ t root l h. rw (root, root_number) (omega arith, omega arith)) e) in
       record { tokens = o.tokens; cells = o.cells }
@@ -304,8 +305,8 @@ keeps_ledger graph arrays inputs picks budget ledger cells allowed =
 
     go : (c : Checked) → check_before graph arrays inputs picks (length ledger) cells ≡ c
         → ledger_after (unless_failed c (ran_to e)) (converted token_rest ledger) ≡ converted token_rest (ledger_before (unless_failed c (ran_to e)) ledger)
-    go (Failed r p) q = refl
-    go Passed q =
+    go (Err fault) q = refl
+    go (Ok _) q =
         let g = graph_of graph in
         let capacity = length ledger / old_width in
         let count = cells / cell_width in
@@ -331,35 +332,35 @@ still_suffices budget lent e =
     let rest : as_many_logs lent % log_width ≡ 0 = omega arith in
     rw (eq-eqb (as_many_logs lent % log_width) 0 rest, logs_count lent) (both (eqb (lent % old_log_width) 0) _ e).1
 
-same_log_stores : (inputs picks ledger cells budget lent : ℕ) → check_log_stores_before inputs picks ledger cells budget lent ≡ Passed
-    → check_log_stores (as_many inputs) picks (as_many ledger) cells budget (as_many_logs lent) ≡ Passed
+same_log_stores : (inputs picks ledger cells budget lent : ℕ) → check_log_stores_before inputs picks ledger cells budget lent ≡ Ok tt
+    → check_log_stores (as_many inputs) picks (as_many ledger) cells budget (as_many_logs lent) ≡ Ok tt
 unfolding check_log_stores_before check_log_stores
 same_log_stores inputs picks ledger cells budget lent e =
     let parts = and_then_passed (check_stores_before inputs picks ledger cells) _ e in
     rw (same_stores inputs picks ledger cells parts.0, still_suffices budget lent (demand_passed _ Refusals.BadStore 0 parts.1))
 
 by_log_stores : (inputs picks ledger cells budget lent : ℕ)
-    → (check_log_stores_before inputs picks ledger cells budget lent ≡ Passed) ⊎ (check_log_stores_before inputs picks ledger cells budget lent ≡ Failed Refusals.BadStore 0)
+    → (check_log_stores_before inputs picks ledger cells budget lent ≡ Ok tt) ⊎ (check_log_stores_before inputs picks ledger cells budget lent ≡ Err (fault_at Refusals.BadStore 0))
 unfolding check_log_stores_before
 by_log_stores inputs picks ledger cells budget lent = go (by_stores inputs picks ledger cells)
   where
-    by : (b : Bool) → (demand b Refusals.BadStore 0 ≡ Passed) ⊎ (demand b Refusals.BadStore 0 ≡ Failed Refusals.BadStore 0)
+    by : (b : Bool) → (demand b Refusals.BadStore 0 ≡ Ok tt) ⊎ (demand b Refusals.BadStore 0 ≡ Err (fault_at Refusals.BadStore 0))
     by true = inl refl
     by false = inr refl
 
-    go : (check_stores_before inputs picks ledger cells ≡ Passed) ⊎ (check_stores_before inputs picks ledger cells ≡ Failed Refusals.BadStore 0)
-        → ((check_stores_before inputs picks ledger cells and_then demand (log_suffices_before budget lent) Refusals.BadStore 0) ≡ Passed)
-        ⊎ ((check_stores_before inputs picks ledger cells and_then demand (log_suffices_before budget lent) Refusals.BadStore 0) ≡ Failed Refusals.BadStore 0)
+    go : (check_stores_before inputs picks ledger cells ≡ Ok tt) ⊎ (check_stores_before inputs picks ledger cells ≡ Err (fault_at Refusals.BadStore 0))
+        → ((check_stores_before inputs picks ledger cells and_then demand (log_suffices_before budget lent) Refusals.BadStore 0) ≡ Ok tt)
+        ⊎ ((check_stores_before inputs picks ledger cells and_then demand (log_suffices_before budget lent) Refusals.BadStore 0) ≡ Err (fault_at Refusals.BadStore 0))
     go (inl e) = rw e (by (log_suffices_before budget lent))
     go (inr e) = inr (rw e)
 
 module _ (graph arrays inputs picks : List ℕ) (budget ledger cells lent : ℕ) (allowed : Neither7Nor14 (answer (logged_before graph arrays inputs picks budget ledger cells lent).result)) where
-  log_stores_passed : check_graph graph ≡ Passed → check_log_stores_before (length inputs) (length picks) ledger cells budget lent ≡ Passed
+  log_stores_passed : check_graph graph ≡ Ok tt → check_log_stores_before (length inputs) (length picks) ledger cells budget lent ≡ Ok tt
   unfolding logged_before check_logged_before log_unless_failed answer
   log_stores_passed p = go (by_log_stores (length inputs) (length picks) ledger cells budget lent)
     where
-      go : (check_log_stores_before (length inputs) (length picks) ledger cells budget lent ≡ Passed) ⊎ (check_log_stores_before (length inputs) (length picks) ledger cells budget lent ≡ Failed Refusals.BadStore 0)
-          → check_log_stores_before (length inputs) (length picks) ledger cells budget lent ≡ Passed
+      go : (check_log_stores_before (length inputs) (length picks) ledger cells budget lent ≡ Ok tt) ⊎ (check_log_stores_before (length inputs) (length picks) ledger cells budget lent ≡ Err (fault_at Refusals.BadStore 0))
+          → check_log_stores_before (length inputs) (length picks) ledger cells budget lent ≡ Ok tt
       go (inl e) = e
       go (inr e) = absurd (allowed.not7 0 (rw (p, e)))
 
@@ -384,8 +385,8 @@ module _ (graph arrays inputs picks : List ℕ) (budget ledger cells lent : ℕ)
 
       go : (c : Checked) → check_logged_before graph arrays inputs picks budget ledger cells lent ≡ c
           → log_unless_failed c (run M budget (picks_of picks) s) (log_of M (by_picks M) budget (picks_of picks) s) ≡ log_unless_failed c (run N budget (picks_of picks) s) (log_of N (by_picks N) budget (picks_of picks) s)
-      go (Failed r p) e = refl
-      go Passed e = let (runs, logs) = same_run_lem graph arrays inputs picks budget ledger cells (λ place q. allowed.not14 place (rw (e, q))) in λ i. record { result = ran_to (runs i); log = logs i }
+      go (Err fault) e = refl
+      go (Ok _) e = let (runs, logs) = same_run_lem graph arrays inputs picks budget ledger cells (λ place q. allowed.not14 place (rw (e, q))) in λ i. record { result = ran_to (runs i); log = logs i }
 
 pub keeps_logged : KeepsLogged
 keeps_logged = same_logged
@@ -419,8 +420,8 @@ keeps_log graph arrays inputs picks budget ledger cells log allowed =
 
     go : (c : Checked) → check_logged_before graph arrays inputs picks budget ledger cells (length log) ≡ c
         → log_after (log_unless_failed c e τs) (converted log_rest log) ≡ converted log_rest (log_before (log_unless_failed c e τs) log)
-    go (Failed r p) q = refl
-    go Passed q =
+    go (Err fault) q = refl
+    go (Ok _) q =
         let capacity = ledger / old_width in
         let count = cells / cell_width in
         let parts = and_then_passed (check_graph graph) _ q in

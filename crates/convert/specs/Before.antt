@@ -18,8 +18,7 @@ use Rattle.machine.specs.Agreement.{with_instructions}
 use Rattle.rules.specs.declared.answer.Refusal.TheVariants as Refusals
 use Rattle.rules.specs.declared.answer.Outcome.TheVariants.{Refused}
 use Rattle.rules.specs.declared.answer.Answer.{Answer}
-use Rattle.rules.specs.declared.answer.Checked.{Checked}
-use Rattle.rules.specs.Check.{demand, ◌and_then◌, in_turn, instruction_at, operands_at, most_cells, second_input, check_with}
+use Rattle.rules.specs.Check.{demand, ◌and_then◌, in_turn, instruction_at, operands_at, most_cells, second_input, check_with, Checked}
 use Rattle.rules.specs.InstructionSet.{EffectHere, effect_in, arity_in, machine_of}
 use Rattle.rules.specs.Run.{token_held, token_record, picks_of, Result, refused_at_once, ran_to, unless_failed, result, answer, ledger_after}
 use Rattle.rules.specs.Log.{LogResult, log_unless_failed, logged, log_after}

@@ -7,6 +7,7 @@ ghost use Rattle.buffer.specs.Rows.{put_row};
 ghost use Rattle.convert.specs.Convert.{token_rest, log_rest, widened, converted, convert_accepted, ConvertedBy};
 
 use record::token;
+use rules::answer::Refusal;
 
 // The bytes of a path before R-8 and since then.
 const OLD_PATH: usize = 8;
@@ -17,12 +18,6 @@ const PATH: usize = 16;
 const TOKEN_REST: usize = 12;
 
 const LOG_REST: usize = 4;
-
-#[derive(Clone, Copy)]
-pub enum Converted {
-    Done,
-    BadStore,
-}
 
 // Writes record i of `old` as record i of `out`.
 fn put_record(rest: usize, old: &[u8], out: &mut [u8], i: usize)
@@ -47,10 +42,8 @@ fn put_records(rest: usize, old: &[u8], out: &mut [u8])
     ensures { out.new ≡ converted rest old.now }
 {
     let count = old.len() / (OLD_PATH + rest);
-    let mut i = 0;
-    while i < count {
+    for i in 0..count {
         put_record(rest, old, out, i);
-        i += 1;
     }
 }
 
@@ -65,27 +58,27 @@ fn accepts(rest: usize, old: usize, out: usize) -> bool
 
 // Writes the records of `old` to `out`, the new bytes zero. A bad store, with `out` untouched, unless
 // `old` is whole records, 2,048 at most, and `out` has the length of as many new ones.
-fn convert_records(rest: usize, old: &[u8], out: &mut [u8]) -> Converted
+fn convert_records(rest: usize, old: &[u8], out: &mut [u8]) -> Result<(), Refusal>
     requires { rest ≤ 12 }
     ensures { ConvertedBy rest old.now out.old out.new result }
 {
     if accepts(rest, old.len(), out.len()) {
         put_records(rest, old, out);
-        Converted::Done
+        Ok(())
     } else {
-        Converted::BadStore
+        Err(Refusal::BadStore)
     }
 }
 
 // The tokens of inputs and listings.
-pub fn convert(old: &[u8], out: &mut [u8]) -> Converted
+pub fn convert(old: &[u8], out: &mut [u8]) -> Result<(), Refusal>
     ensures { ConvertedBy token_rest old.now out.old out.new result }
 {
     convert_records(TOKEN_REST, old, out)
 }
 
 // The firings of a log.
-pub fn convert_log(old: &[u8], out: &mut [u8]) -> Converted
+pub fn convert_log(old: &[u8], out: &mut [u8]) -> Result<(), Refusal>
     ensures { ConvertedBy log_rest old.now out.old out.new result }
 {
     convert_records(LOG_REST, old, out)

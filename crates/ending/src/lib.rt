@@ -4,7 +4,7 @@
 ghost use Rattle.std.specs.Prelude.{◌≡◌, ◌/◌, ◌≤◌, ◌<◌, length};
 ghost use Rattle.record.specs.TokensAndTags.{tokens, token_at};
 ghost use Rattle.record.specs.Widths.{token_width};
-ghost use Rattle.store_flags.specs.Flags.{Counted, places, flags_of};
+ghost use Rattle.store_flags.specs.Flags.{places};
 ghost use Rattle.store_enabled.specs.Enabled.{enabled_places};
 ghost use Rattle.ending.specs.Endings.{proper_by, state_spent, four_spent, EndsWith, RestsAs};
 
@@ -63,6 +63,7 @@ pub fn ending(tables: &Tables, ledger: &[u8], used: usize) -> Outcome
 {
     // From the newest record back: these are the likeliest to be in the processor's cache, and to wait.
     let mut i = used;
+    // No `for`: an iteration passes four records, or one.
     while 0 < i {
         if four_spent(ledger, i) {
             i -= 4;
@@ -78,7 +79,7 @@ pub fn ending(tables: &Tables, ledger: &[u8], used: usize) -> Outcome
 
 // How a run ends whose budget is spent: completed and hung are tried first.
 pub fn rest(tables: &Tables, flags: &Flags, ledger: &[u8], used: usize) -> Outcome
-    requires { Counted flags.now × (places (flags_of flags.now) ≡ enabled_places tables.now (tokens used ledger.now)) × (used ≤ length ledger.now / token_width) }
+    requires { (places flags.now ≡ enabled_places tables.now (tokens used ledger.now)) × (used ≤ length ledger.now / token_width) }
     ensures { RestsAs result tables.now (tokens used ledger.now) }
 {
     if store::enabled_count(flags) == 0 {

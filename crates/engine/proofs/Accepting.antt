@@ -1,5 +1,6 @@
 -- A run under picks is the loop's (`ended_by_picks`, `logged_by_picks`), with a bound or without one (`ended_by_bound`, `logged_by_bound`). Of one that passed its checks
 -- the end is 01's (`as_run_lem`) and the log 02's (`as_logged`), said of the buffers as lent. Assumes nothing.
+use Rattle.std.proofs.Common.{Ok}
 use Prim.Native.Nat.{ℕ, ◌/◌, ◌<◌}
 use mathlib.Core.Path.{◌≡◌, refl, sym, ap, ◌∙◌, subst}
 use mathlib.Core.List.{List}
@@ -22,9 +23,7 @@ use Rattle.machine.proofs.Bounded.{unbounded, bounded_logged}
 use Rattle.machine.proofs.Orders.{by_picks_lawful}
 use Rattle.rules.specs.declared.answer.Refusal.{Refusal}
 use Rattle.rules.specs.declared.answer.Answer.{Answer}
-use Rattle.rules.specs.declared.answer.Checked.{Checked}
-use Rattle.rules.specs.declared.answer.Checked.TheVariants.{Passed}
-use Rattle.rules.specs.Check.{◌and_then◌, check_graph, check_stores, check_arrays, check_inputs}
+use Rattle.rules.specs.Check.{◌and_then◌, check_graph, check_stores, check_arrays, check_inputs, Checked}
 use Rattle.rules.specs.Log.{check_log_stores}
 use Rattle.rules.specs.Held.{held_in}
 use Rattle.rules.specs.Bounded.{and_bound, check_bounded, check_bound_logged}
@@ -107,8 +106,8 @@ module _ (picks : List ℕ) (k : ℕ) where
 
 -- ---- that passed its checks
 
-parts : (graph arrays inputs : List ℕ) (stores : Checked) (picks ledger cells : ℕ) → (stores ≡ Passed → check_stores (length inputs) picks ledger cells ≡ Passed)
-    → (check_graph graph and_then stores and_then check_arrays (graph_of graph) (cells / cell_width) arrays and_then check_inputs (graph_of graph) (capacity_of ledger) inputs) ≡ Passed → Accepted graph arrays inputs ledger cells
+parts : (graph arrays inputs : List ℕ) (stores : Checked) (picks ledger cells : ℕ) → (stores ≡ Ok tt → check_stores (length inputs) picks ledger cells ≡ Ok tt)
+    → (check_graph graph and_then stores and_then check_arrays (graph_of graph) (cells / cell_width) arrays and_then check_inputs (graph_of graph) (capacity_of ledger) inputs) ≡ Ok tt → Accepted graph arrays inputs ledger cells
 parts graph arrays inputs stores picks ledger cells whole e =
     let a = both-passed (check_graph graph) _ e in
     let b = both-passed stores _ a.1 in
@@ -117,13 +116,13 @@ parts graph arrays inputs stores picks ledger cells whole e =
     record { graph_passed = a.0; few_arrays = passed_arrays (graph_of graph) (cells / cell_width) arrays c.0; inputs_passed = c.1; few = good.token_records.1; cell_records = good.cell_records }
 
 -- what is said of a run that passed its check, with a bound
-pub accepted_bounded : (graph arrays inputs picks : List ℕ) (k ledger cells : ℕ) → check_bounded graph arrays inputs picks k ledger cells ≡ Passed → Accepted graph arrays inputs ledger cells
+pub accepted_bounded : (graph arrays inputs picks : List ℕ) (k ledger cells : ℕ) → check_bounded graph arrays inputs picks k ledger cells ≡ Ok tt → Accepted graph arrays inputs ledger cells
 unfolding check_bounded and_bound
 accepted_bounded graph arrays inputs picks k ledger cells e =
     parts graph arrays inputs (and_bound (check_stores (length inputs) (length picks) ledger cells) k) (length picks) ledger cells (λ h. (both-passed (check_stores (length inputs) (length picks) ledger cells) _ h).0) e
 
 -- 02, R-7: the check of a run that writes a log says so too
-pub accepted_logged : (graph arrays inputs picks : List ℕ) (budget k ledger cells lent : ℕ) → check_bound_logged graph arrays inputs picks budget k ledger cells lent ≡ Passed → Accepted graph arrays inputs ledger cells
+pub accepted_logged : (graph arrays inputs picks : List ℕ) (budget k ledger cells lent : ℕ) → check_bound_logged graph arrays inputs picks budget k ledger cells lent ≡ Ok tt → Accepted graph arrays inputs ledger cells
 unfolding check_bound_logged check_log_stores and_bound
 accepted_logged graph arrays inputs picks budget k ledger cells lent e =
     parts graph arrays inputs (and_bound (check_log_stores (length inputs) (length picks) ledger cells budget lent) k) (length picks) ledger cells

@@ -8,6 +8,7 @@ use native.Mathlib.Nat.{mod-lt}
 use lib.Dec.{ltb}
 use lib.ListN.{length, get_or, take, drop, replicate, length-map}
 use lib.IntN.{ℤ}
+use Rattle.std.specs.Prelude.{Some}
 use Rattle.record.specs.declared.array.NamedArray.{NamedArray}
 use Rattle.record.specs.declared.tag.Tag.{Tag}
 use Rattle.record.specs.declared.token.Token as Record
@@ -28,12 +29,12 @@ use Rattle.rules.specs.InstructionSet.{machine_of}
 use Rattle.rules.specs.Run.{outcome_of}
 use Rattle.rules.specs.Held.{held_in}
 use Rattle.rules.proofs.Lawful.{lawful}
-use Rattle.store_flags.specs.Flags.{places, places_from, minus, flags_of}
+use Rattle.store_flags.specs.Flags.{places, places_from, minus}
 use Rattle.store_flags.specs.Marks.{bit, Marked}
 use Rattle.store_enabled.specs.Enabled.{enabled_places}
 use Rattle.store_enabled.specs.Store.{Right}
 use Rattle.store.specs.Matching.{Matching}
-use Rattle.store.proofs.Laws.{matching_stored, matching_counted, matching_places, matching_room, matching_few}
+use Rattle.store.proofs.Laws.{matching_stored, matching_list, matching_places, matching_room, matching_few}
 use Rattle.abstraction.specs.States.{no_token, state_held}
 use Rattle.abstraction.specs.Tables.{Arities, arrays_in}
 use Rattle.fire_outputs.specs.Outputs.{cells_in}
@@ -48,7 +49,7 @@ use Rattle.held.proofs.Free.{held_under, free_places}
 use Rattle.held.proofs.Fired.{went_later, flags_unspent}
 use Rattle.engine.specs.declared.choice.Order.{Order}
 use Rattle.engine.specs.declared.choice.Order.TheVariants.{Oldest, Picks, Log, Free}
-use Rattle.engine.specs.Turns.{BoundFits, HeldBeside, HeldBack, Bounding, Followed, FiredOn, TakesPlace, Ends, end_of, Proceeded, Settled, rests_there, as_it_was, SettledBy, end_by}
+use Rattle.engine.specs.Turns.{HeldBeside, HeldBack, Holding, Bounding, Followed, TakesPlace, Ends, end_of, Proceeded, Settled, rests_there, as_it_was, end_by}
 use Rattle.engine.proofs.Choosing.{get_d_map, taken_there}
 
 -- ---- a choice
@@ -87,7 +88,7 @@ module _ (tables ledger : List ℕ) (used : ℕ) (g : List Instruction) (right :
   activity p = record { place = p; tag = (get_or ts p no_token).tag }
 
   abbrev free : List ℕ
-  free = places (minus (flags_of flags) (flags_of held))
+  free = places (minus flags held)
 
   free_here : free_of M (held_in g k) s ≡ map activity free
   free_here = free_places g table capacity count k tables links flags held ledger used cs right (on_ports g ts arrived) m d
@@ -125,10 +126,10 @@ module _ (tables ledger : List ℕ) (used : ℕ) (g : List Instruction) (right :
     free_there place n at =
         let chosen = ap (λ (l : List (Activity Tag)). on_list l (ends (ending M s)) (λ a more. takes (by_picks M s (get_or picks f 0) a more))) free_here in
         let low : get_or picks f 0 % length free < length free = mod-lt (get_or picks f 0) (omega arith) in
-        let binary : (i : ℕ) → get_or (minus (flags_of flags) (flags_of held)) i 0 ≤ 1 = λ i. le_trans (minus_le (flags_of flags) (flags_of held) i) ((matching_counted m).tallied.binary i) in
-        let one : get_or (minus (flags_of flags) (flags_of held)) place 0 ≡ 1 = rw at (places_one (minus (flags_of flags) (flags_of held)) (get_or picks f 0 % length free) binary low) in
-        let (j, lt, e) = among 0 place (flags_of flags) (omega (arith, one, minus_le (flags_of flags) (flags_of held) place)) in
-        let all : places (flags_of flags) ≡ enabled_places tables ts = matching_places m in
+        let binary : (i : ℕ) → get_or (minus flags held) i 0 ≤ 1 = λ i. le_trans (minus_le flags held i) ((matching_list m).binary i) in
+        let one : get_or (minus flags held) place 0 ≡ 1 = rw at (places_one (minus flags held) (get_or picks f 0 % length free) binary low) in
+        let (j, lt, e) = among 0 place flags (omega (arith, one, minus_le flags held place)) in
+        let all : places flags ≡ enabled_places tables ts = matching_places m in
         let there : place ≡ get_or (enabled_places tables ts) j 0 = zero_less place ∙ e ∙ ap (λ (l : List ℕ). get_or l j 0) all in
         taken_there tables ledger used g right arrived table capacity count cs m _ place j (subst (λ (l : List ℕ). j < length l) all lt) there (chosen ∙ go free n at)
       where
@@ -170,13 +171,13 @@ module _ (graph : List ℕ) {tables links flags ledger cells : List ℕ} {used :
   back_of Log nexts held marks b = tt
   back_of (Free k) nexts held marks b = b.kept.decided
 
-  pub beside_of : (order : Order) (nexts held marks : List ℕ) → Bounding order g tables flags ledger used nexts held marks → HeldBeside order flags held
+  pub beside_of : (order : Order) (nexts held marks : List ℕ) → Bounding order g tables flags ledger used nexts held marks → HeldBeside order flags (Some held)
   beside_of Oldest nexts held marks b = tt
   beside_of Picks nexts held marks b = tt
   beside_of Log nexts held marks b = tt
   beside_of (Free k) nexts held marks b =
       let d = b.kept.decided in
-      (d.counted, held_under g [] 0 0 k tables links flags held ledger used [] ready.arities_right (on_ports g (tokens used ledger) now.arrived) now.matching d)
+      held_under g [] 0 0 k tables links flags held ledger used [] ready.arities_right (on_ports g (tokens used ledger) now.arrived) now.matching d
 
   -- what the rules ask for names cells of the store
   pub below_here : (τ : Tag) → CellsBelow (length cells / cell_width) (asked_in g tables ledger cells used τ)
@@ -184,39 +185,28 @@ module _ (graph : List ℕ) {tables links flags ledger cells : List ℕ} {used :
 
   -- a firing of whatever effect
   module _ {τ : Tag} {e : Effect Refusal Tag ℤ} (below : CellsBelow (length cells / cell_width) e) {links' flags' ledger' cells' : List ℕ} {n : ℕ} (w : Went g τ e tables links' flags' ledger' cells' n used ledger cells) where
-    pub fired_on : (order : Order) (nexts held marks : List ℕ) → Bounding order g tables flags ledger used nexts held marks → FiredOn order g tables flags' ledger' used n nexts held marks
-    fired_on Oldest nexts held marks b = tt
-    fired_on Picks nexts held marks b = tt
-    fired_on Log nexts held marks b = tt
-    fired_on (Free k) nexts held marks b = record {
+    pub fired_on : (k : ℕ) (nexts held marks : List ℕ) → Holding g k tables flags ledger used nexts held marks → Followed g k tables flags' ledger' used n nexts held marks
+    fired_on k nexts held marks b = record {
       arities = ready.arities_right;
       grown = w.grown;
       room = (matching_room w.running.matching, matching_few w.running.matching);
       bound = b.bound;
-      counted = matching_counted w.running.matching;
       unspent = flags_unspent g ready.arities_right (on_ports g (tokens n ledger') w.running.arrived) w.running.matching;
       carried = carried_later g tables ledger ledger' k used (went_later graph now below w) nexts held marks b.kept.carried;
     }
 
-  pub started_on : (k : ℕ) → 0 < k → k < 65536 → FiredOn (Free k) g tables flags ledger 0 used (replicate 69 0) (replicate 69 0) (replicate 4096 0)
+  pub started_on : (k : ℕ) → 0 < k → k < 65536 → Followed g k tables flags ledger 0 used (replicate 2048 0) (replicate 2048 0) (replicate 4096 0)
   started_on k pos small = record {
     arities = ready.arities_right;
     grown = omega arith;
     room = (matching_room now.matching, matching_few now.matching);
     bound = (pos, small);
-    counted = matching_counted now.matching;
     unspent = flags_unspent g ready.arities_right (on_ports g (tokens used ledger) now.arrived) now.matching;
     carried = carried_none g tables ledger k;
   }
 
-  pub started_by : (order : Order) → BoundFits order → FiredOn order g tables flags ledger 0 used (replicate 69 0) (replicate 69 0) (replicate 4096 0)
-  started_by Oldest fits = tt
-  started_by Picks fits = tt
-  started_by Log fits = tt
-  started_by (Free k) fits = started_on k fits.0 fits.1
-
   -- a turn that ended the run left the ledger as it was, and flags that say the same
-  same_flags : {links' flags' : List ℕ} → Matching tables links' flags' ledger used → flags_of flags ≡ flags_of flags'
+  same_flags : {links' flags' : List ℕ} → Matching tables links' flags' ledger used → flags ≡ flags'
   unfolding Right Marked
   same_flags m = (matching_stored now.matching).right ∙ sym (matching_stored m).right
 
@@ -233,9 +223,16 @@ module _ (graph : List ℕ) {tables links flags ledger cells : List ℕ} {used :
         bound = b.bound;
         kept = record {
           carried = b.kept.carried;
-          decided = record { counted = d.counted; right = λ i. d.right i ∙ ap (λ (l : List ℕ). bit (ltb i used && held_at g k l ledger used i)) (same_flags m) };
+          decided = record { right = λ i. d.right i ∙ ap (λ (l : List ℕ). bit (ltb i used && held_at g k l ledger used i)) (same_flags m) };
         };
       })
+
+-- an order without a bound has nothing to keep
+pub none_kept : (order : Order) → ((k : ℕ) → order ≡ Free k → ⊥) → (g : List Instruction) (tables flags ledger : List ℕ) (used : ℕ) (nexts held marks : List ℕ) → Bounding order g tables flags ledger used nexts held marks
+none_kept Oldest n g tables flags ledger used nexts held marks = tt
+none_kept Picks n g tables flags ledger used nexts held marks = tt
+none_kept Log n g tables flags ledger used nexts held marks = tt
+none_kept (Free k) n g tables flags ledger used nexts held marks = absurd (n k refl)
 
 -- ---- the end of a run with a bound
 
@@ -269,7 +266,13 @@ module _ (g : List Instruction) (k : ℕ) (tables links flags held ledger cells 
       (ended p.outcome own.outcome p.told
       (as_settled p.outcome (some_left tables ledger own.tokens g right p.running.arrived (arrays_in tables) (length ledger₀ / token_width) (length cells₀ / cell_width) (cells_in cells) links flags held p.running.matching k d (ending M₀ s₁) p.outcome n)))
 
--- of every order
+-- the same of every order: where nothing is held back the answer stays
+abbrev pub SettledBy : Order → (tables flags held ledger : List ℕ) → (own r : Answer) → Type 0
+SettledBy Oldest tables flags held ledger own r = r ≡ own
+SettledBy Picks tables flags held ledger own r = r ≡ own
+SettledBy Log tables flags held ledger own r = r ≡ own
+SettledBy (Free k) tables flags held ledger own r = Settled tables flags held ledger own r
+
 module _ (source : List ℕ) (g : List Instruction) (tables links flags held ledger cells ledger₀ cells₀ : List ℕ) (start budget : ℕ) (nexts marks : List ℕ) (own r : Answer) (right : Arities g tables) where
   as_it_ended : (e : End Refusal Tag ℤ) → Proceeded e own g tables links flags ledger cells start ledger₀ cells₀ → r ≡ own → Proceeded e r g tables links flags ledger cells start ledger₀ cells₀
   as_it_ended e p h = subst (λ (a : Answer). Proceeded e a g tables links flags ledger cells start ledger₀ cells₀) (sym h) p

@@ -21,9 +21,9 @@ use Rattle.record.specs.TokensAndTags.{tokens, token_at, tag_in, port_in}
 use Rattle.record.specs.TokensAndTags as Tokens
 use Rattle.record.specs.Logs.{name_of}
 use Rattle.record.specs.Widths.{token_width, log_width}
-use Rattle.store_flags.specs.Flags.{places, flags_of}
-use Rattle.store_chains.specs.declared.Found.{Found}
-use Rattle.store_chains.specs.declared.Found.TheVariants.{At, Nothing}
+use Rattle.store_flags.specs.Flags.{places}
+use Rattle.std.specs.Prelude.{Some, None}
+use Rattle.std.specs.Prelude as Std
 use Rattle.store_chains.proofs.Index.{and_left, and_right}
 use Rattle.store_enabled.specs.Enabled.{operands_live, is_enabled, tag_same, earliest_of, leads_in, enabled_places}
 use Rattle.store_enabled.specs.Store.{enabled_at}
@@ -103,11 +103,11 @@ unfolding operands_live
 live_some zero ts tag e = let z : ◌≡◌ {A = ℕ} 0 1 = cc in absurd (omega arith)
 live_some (suc n) ts tag e = omega arith
 
-when_at : (b : Bool) (q p : ℕ) → cond b (At q) Nothing ≡ At p → (b ≡ true) × (q ≡ p)
+when_at : (b : Bool) (q p : ℕ) → cond b (Some q) None ≡ Some p → (b ≡ true) × (q ≡ p)
 when_at true q p e = (refl, cc)
 when_at false q p e = let z : ◌≡◌ {A = ℕ} 0 1 = cc in absurd (omega arith)
 
-when_nothing : (b : Bool) (q : ℕ) → cond b (At q) Nothing ≡ Nothing → b ≡ false
+when_nothing : (b : Bool) (q : ℕ) → cond b (Some q) None ≡ None → b ≡ false
 when_nothing true q e = let z : ◌≡◌ {A = ℕ} 0 1 = cc in absurd (omega arith)
 when_nothing false q e = refl
 
@@ -115,13 +115,13 @@ when_nothing false q e = refl
 
 module _ {tables links flags ledger : List ℕ} {used : ℕ} (m : Matching tables links flags ledger used) where
   -- the place that a pick finds among the flags is that among the enabled activities
-  pub pick_number : (picks : List ℕ) (f e pick number place : ℕ) → e ≡ length (places (flags_of flags)) → pick ≡ get_or picks f 0 → number ≡ pick % e → place ≡ get_or (places (flags_of flags)) number 0
+  pub pick_number : (picks : List ℕ) (f e pick number place : ℕ) → e ≡ length (places flags) → pick ≡ get_or picks f 0 → number ≡ pick % e → place ≡ get_or (places flags) number 0
       → place ≡ get_or (enabled_places tables (tokens used ledger)) (get_or picks f 0 % length (enabled_places tables (tokens used ledger))) 0
   pick_number picks f e pick number place all taken numbered at =
       at ∙ (λ i. get_or (matching_places m i) ((numbered ∙ λ j. taken j % (all ∙ ap length (matching_places m)) j) i) 0)
 
   -- the first enabled activity, and that it is the one of its tag
-  module _ (some : ¬ (length (places (flags_of flags)) ≡ 0)) (place : ℕ) (first : place ≡ get_or (places (flags_of flags)) 0 0) where
+  module _ (some : ¬ (length (places flags) ≡ 0)) (place : ℕ) (first : place ≡ get_or (places flags) 0 0) where
     among : 0 < length (enabled_places tables (tokens used ledger))
     among = subst (λ (l : List ℕ). 0 < length l) (matching_places m) (omega (arith, some))
 
@@ -131,13 +131,13 @@ module _ {tables links flags ledger : List ℕ} {used : ℕ} (m : Matching table
     pub first_there : place < used
     first_there = subst (λ (p : ℕ). p < used) (sym at_first) (matching_enabled_below m 0 among)
 
-    pub first_named : (tag : Tag) → Tokens.same_tag (token_at ledger place).tag tag ≡ true → At place ≡ enabled_at tables (tokens used ledger) tag
+    pub first_named : (tag : Tag) → Tokens.same_tag (token_at ledger place).tag tag ≡ true → Some place ≡ enabled_at tables (tokens used ledger) tag
     first_named tag same =
         let own = (token_at ledger place).tag in
         let lead = subst (λ (p : ℕ). leads_in tables (tokens used ledger) p (token_at ledger p) ≡ true) (sym at_first) (matching_leads m 0 among) in
         let there = eqb-true (earliest_of (tokens used ledger) own) place (and_left _ _ lead) in
         let on = and_right (eqb (earliest_of (tokens used ledger) own) place) _ lead in
-        rw (tag_equal tag own same, on) (ap At (sym there))
+        rw (tag_equal tag own same, on) (ap Some (sym there))
 
 -- ---- what the machine has enabled
 
@@ -228,12 +228,12 @@ module _ (tables ledger : List ℕ) (used : ℕ) (g : List Instruction) (right :
     pub names_nothing : none ≡ get_or names f none → Ends (Outcomes.Refused NotEnabled f) (by_name M NotEnabled names f s)
     names_nothing e = not_named (by_name_lem none (sym e))
 
-    module _ (τ : Tag) (is : some τ ≡ get_or names f none) (found : Found) (searched : found ≡ enabled_at tables ts τ) where
+    module _ (τ : Tag) (is : some τ ≡ get_or names f none) (found : Std.Option ℕ) (searched : found ≡ enabled_at tables ts τ) where
       -- it "names no enabled activity"
-      pub names_none : found ≡ Nothing → Ends (Outcomes.Refused NotEnabled f) (by_name M NotEnabled names f s)
+      pub names_none : found ≡ None → Ends (Outcomes.Refused NotEnabled f) (by_name M NotEnabled names f s)
       names_none e = not_named (by_name_lem (some τ) (sym is) ∙ absent τ (when_nothing (is_enabled tables ts τ) (earliest_of ts τ) (sym searched ∙ e)))
 
-      pub names_there : (place : ℕ) → found ≡ At place → place < used → TakesPlace place (by_name M NotEnabled names f s) tables ledger used
+      pub names_there : (place : ℕ) → found ≡ Some place → place < used → TakesPlace place (by_name M NotEnabled names f s) tables ledger used
       names_there place at within =
           let (on, first) = when_at (is_enabled tables ts τ) (earliest_of ts τ) place (sym searched ∙ at) in
           let size = length_rows token_width Tokens.decode_token used ledger in

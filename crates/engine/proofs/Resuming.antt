@@ -1,5 +1,6 @@
 -- 02, R-13: a run that goes on from a saved state. Its own firings come after those before, so that what the loop does from there is what 02 asks (`goes_on`).
 -- Assumes nothing.
+use Rattle.std.proofs.Common.{Ok, Err}
 use Prim.Native.Nat.{ℕ, ◌+◌, ◌/◌, ◌≤◌}
 use mathlib.Core.Path.{◌≡◌, refl, ap, ◌∙◌, subst}
 use mathlib.Core.Bool.{true, false}
@@ -20,10 +21,8 @@ use Rattle.rules.specs.declared.answer.Refusal.{Refusal}
 use Rattle.rules.specs.declared.answer.Refusal.TheVariants.{DamagedState}
 use Rattle.rules.specs.declared.answer.Outcome.TheVariants as Outcomes
 use Rattle.rules.specs.declared.answer.Answer.{Answer}
-use Rattle.rules.specs.declared.answer.Checked.{Checked}
-use Rattle.rules.specs.declared.answer.Checked.TheVariants.{Passed, Failed}
 use Rattle.rules.specs.Answer.{values_of}
-use Rattle.rules.specs.Check.{◌and_then◌, demand, check_graph, check_stores, check_arrays}
+use Rattle.rules.specs.Check.{◌and_then◌, demand, check_graph, check_stores, check_arrays, Checked, fault_at}
 use Rattle.rules.specs.Run.{picks_of, Result, refused_at_once, unless_failed, outcome_of, answer, ledger_after, cells_after, Ran}
 use Rattle.rules.specs.Held.{held_in}
 use Rattle.rules.specs.Saved.{state_saved, machine_saved, state_taken}
@@ -78,29 +77,29 @@ module _ (graph arrays picks ledger cells : List ℕ) (budget k firings used : �
 
   -- ---- the checks before
 
-  whole_stores : and_bound (check_stores 0 (length picks) (length ledger) (length cells)) k ≡ Passed → check_stores 0 (length picks) (length ledger) (length cells) ≡ Passed
+  whole_stores : and_bound (check_stores 0 (length picks) (length ledger) (length cells)) k ≡ Ok tt → check_stores 0 (length picks) (length ledger) (length cells) ≡ Ok tt
   unfolding and_bound
   whole_stores e = (both-passed (check_stores 0 (length picks) (length ledger) (length cells)) _ e).0
 
-  pub lent : resume_lent_checked graph arrays (length picks) k (length ledger) (length cells) ≡ Passed → LentToResume graph arrays (length ledger) (length cells)
+  pub lent : resume_lent_checked graph arrays (length picks) k (length ledger) (length cells) ≡ Ok tt → LentToResume graph arrays (length ledger) (length cells)
   lent e =
       let (g, later) = both-passed (check_graph graph) _ e in
       let (s, named) = both-passed (and_bound (check_stores 0 (length picks) (length ledger) (length cells)) k) _ later in
       let stores = passed_stores 0 (length picks) (length ledger) (length cells) (whole_stores s) in
       record { graph_passed = g; few_arrays = passed_arrays (graph_of graph) (length cells / cell_width) arrays named; few = stores.token_records.1; cell_records = stores.cell_records }
 
-  pub lent_failed : (r : Refusal) (p : ℕ) → resume_lent_checked graph arrays (length picks) k (length ledger) (length cells) ≡ Failed r p → bound_carried graph arrays picks budget k ledger cells firings used ≡ refused_at_once r p
+  pub lent_failed : (r : Refusal) (p : ℕ) → resume_lent_checked graph arrays (length picks) k (length ledger) (length cells) ≡ Err (fault_at r p) → bound_carried graph arrays picks budget k ledger cells firings used ≡ refused_at_once r p
   unfolding bound_carried check_bound_saved unless_failed
   lent_failed r p e = go (check_graph graph) (and_bound (check_stores 0 (length picks) (length ledger) (length cells)) k) (check_arrays (graph_of graph) (length cells / cell_width) arrays) e
       (demand (state_taken graph ledger cells firings used) DamagedState 0) _
     where
-      go : (c d n : Checked) → (c and_then d and_then n) ≡ Failed r p → (x : Checked) (y : Result) → unless_failed (c and_then d and_then n and_then x) y ≡ refused_at_once r p
-      go (Failed q m) d n h x y = let a : ◌≡◌ {A = Checked} (Failed q m) (Failed r p) = h in ap (λ (k : Checked). unless_failed k y) a
-      go Passed (Failed q m) n h x y = let a : ◌≡◌ {A = Checked} (Failed q m) (Failed r p) = h in ap (λ (k : Checked). unless_failed k y) a
-      go Passed Passed (Failed q m) h x y = let a : ◌≡◌ {A = Checked} (Failed q m) (Failed r p) = h in ap (λ (k : Checked). unless_failed k y) a
-      go Passed Passed Passed h x y = let z : ◌≡◌ {A = ℕ} 0 1 = cc in absurd (omega arith)
+      go : (c d n : Checked) → (c and_then d and_then n) ≡ Err (fault_at r p) → (x : Checked) (y : Result) → unless_failed (c and_then d and_then n and_then x) y ≡ refused_at_once r p
+      go (Err fault) d n h x y = let a : ◌≡◌ {A = Checked} (Err fault) (Err (fault_at r p)) = h in ap (λ (k : Checked). unless_failed k y) a
+      go (Ok _) (Err fault) n h x y = let a : ◌≡◌ {A = Checked} (Err fault) (Err (fault_at r p)) = h in ap (λ (k : Checked). unless_failed k y) a
+      go (Ok _) (Ok _) (Err fault) h x y = let a : ◌≡◌ {A = Checked} (Err fault) (Err (fault_at r p)) = h in ap (λ (k : Checked). unless_failed k y) a
+      go (Ok _) (Ok _) (Ok _) h x y = let z : ◌≡◌ {A = ℕ} 0 1 = cc in absurd (omega arith)
 
-  pub lent_passed : resume_lent_checked graph arrays (length picks) k (length ledger) (length cells) ≡ Passed → bound_carried graph arrays picks budget k ledger cells firings used ≡ resumed graph arrays picks budget k ledger cells firings used
+  pub lent_passed : resume_lent_checked graph arrays (length picks) k (length ledger) (length cells) ≡ Ok tt → bound_carried graph arrays picks budget k ledger cells firings used ≡ resumed graph arrays picks budget k ledger cells firings used
   unfolding bound_carried check_bound_saved
   lent_passed e =
       let (g, later) = both-passed (check_graph graph) _ e in
@@ -108,7 +107,7 @@ module _ (graph arrays picks ledger cells : List ℕ) (budget k firings used : �
       rw (g, s, named)
 
   -- a refusal of the checks
-  pub failed : (r : Refusal) (p : ℕ) → resume_lent_checked graph arrays (length picks) k (length ledger) (length cells) ≡ Failed r p → (a : Answer) → a ≡ record { outcome = Outcomes.Refused r p; firings = 0; tokens = 0 }
+  pub failed : (r : Refusal) (p : ℕ) → resume_lent_checked graph arrays (length picks) k (length ledger) (length cells) ≡ Err (fault_at r p) → (a : Answer) → a ≡ record { outcome = Outcomes.Refused r p; firings = 0; tokens = 0 }
       → BoundCarriedOn graph arrays picks budget k firings used a ledger ledger cells cells
   unfolding answer ledger_after cells_after
   failed r p e a h = rw (lent_failed r p e) (record { answered = h; numbers = ap values_of h; ledger_left = refl; cells_left = refl })

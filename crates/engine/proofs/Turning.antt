@@ -1,5 +1,6 @@
 -- A turn, by what was chosen for it: the activity that fires has its tag at its place still, and the turn is what the machine makes of the chooser's answer.
 -- Assumes nothing.
+use Rattle.std.specs.Prelude.{Result}
 use Prim.Native.Nat.{ℕ, ◌/◌, ◌<◌}
 use mathlib.Core.Path.{◌≡◌, refl, sym, ap, subst, ◌∙◌}
 use mathlib.Core.List.{List, map}
@@ -25,7 +26,6 @@ use Rattle.abstraction.specs.Tables.{arrays_in}
 use Rattle.fire_outputs.specs.Outputs.{cells_in}
 use Rattle.fire.specs.Running.{machine_over, state_in, Running, Went, Stopped, Prepared}
 use Rattle.engine.specs.declared.choice.Order.{Order}
-use Rattle.engine.specs.declared.choice.Choice.{Choice}
 use Rattle.engine.specs.Turns.{chooser_for, HeldBack, Chooses, ChosenAs, TakesPlace, Ends, Advanced, by_choice, by_refusal, Halted}
 use Rattle.engine.proofs.Choosing.{get_d_map}
 use Rattle.engine.proofs.Places.{keys_kept}
@@ -37,7 +37,7 @@ held_tag l n i h =
     (get_d_map token_held (tokens n l) i no_token (token_held no_token) (rw (length_rows token_width Tokens.decode_token n l) h) ∙ ap token_held (get_d_rows token_width Tokens.decode_token n i l no_token h))
 
 -- the choice, of the graph and the cells at hand
-pub chosen_now : (graph : List ℕ) (order : Order) (source : List ℕ) (f : ℕ) (r : Choice) (held : List ℕ) {tables links flags ledger cells : List ℕ} {used : ℕ} → ChosenAs r order source f tables flags held ledger used
+pub chosen_now : (graph : List ℕ) (order : Order) (source : List ℕ) (f : ℕ) (r : Result ℕ AnswerOutcome.Outcome) (held : List ℕ) {tables links flags ledger cells : List ℕ} {used : ℕ} → ChosenAs r order source f tables flags held ledger used
     → Prepared graph tables → Running (graph_of graph) tables links flags ledger cells used → HeldBack order (graph_of graph) flags held ledger used
     → Chooses r (chooser_for order source (graph_of graph) tables ledger cells f (state_in ledger cells used)) tables ledger used
 chosen_now graph order source f r held {tables = tables} {ledger = ledger} {cells = cells} said ready now back =

@@ -1,16 +1,14 @@
 -- Working definition: no public promise cites it.
 -- 02, R-13: a run that goes on from a saved state, once graph and stores passed their checks. Assumes nothing.
-use Rattle.std.specs.Prelude.{ℕ, ◌/◌, ◌%◌, ◌≤◌, ◌≡◌, List, length}
+use Rattle.std.specs.Prelude.{ℕ, ◌/◌, ◌%◌, ◌≤◌, ◌≡◌, List, length, Ok}
 use Rattle.record.specs.GraphRecords.{graph_of}
 use Rattle.record.specs.Arrays.{most_arrays, arrays_of}
 use Rattle.record.specs.TokensAndTags.{most_tokens, capacity_of}
 use Rattle.record.specs.Widths.{cell_width, array_width}
 use Rattle.machine.specs.Machine.{by_picks}
 use Rattle.machine.specs.Bounded.{run_bounded}
-use Rattle.rules.specs.declared.answer.Checked.{Checked}
-use Rattle.rules.specs.declared.answer.Checked.TheVariants.{Passed}
 use Rattle.rules.specs.declared.answer.Refusal.TheVariants.{DamagedState}
-use Rattle.rules.specs.Check.{demand, ◌and_then◌, check_graph, check_stores, check_arrays, most_cells}
+use Rattle.rules.specs.Check.{demand, ◌and_then◌, check_graph, check_stores, check_arrays, most_cells, Checked}
 use Rattle.rules.specs.Run.{picks_of, Result, ran_to, unless_failed}
 use Rattle.rules.specs.Held.{held_in}
 use Rattle.rules.specs.Bounded.{and_bound}
@@ -22,7 +20,7 @@ resume_lent_checked graph arrays picks k ledger cells = check_graph graph and_th
 
 -- the graph passed, the table of named arrays is not too long, and ledger and cells are of allowed length
 pub record LentToResume (graph arrays : List ℕ) (ledger cells : ℕ) : Type 0 where
-  pub graph_passed : check_graph graph ≡ Passed
+  pub graph_passed : check_graph graph ≡ Ok tt
   pub few_arrays : length arrays / array_width ≤ most_arrays
   pub few : capacity_of ledger ≤ most_tokens
   pub cell_records : (cells % cell_width ≡ 0) × (cells / cell_width ≤ most_cells)

@@ -1,6 +1,6 @@
 -- Working definition: no public promise cites it.
 -- A run, a turn at a time, in the terms of the machine: who chooses, what a turn leaves, and what a run leaves in ledger, cells and log. Assumes nothing.
-use Rattle.std.specs.Prelude.{ℕ, ◌*◌, ◌/◌, ◌≤◌, ◌<◌, ◌≡◌, true, cond, List, [], ltb, length, take, drop, ℤ}
+use Rattle.std.specs.Prelude.{ℕ, ◌*◌, ◌/◌, ◌≤◌, ◌<◌, ◌≡◌, true, cond, List, [], ltb, length, take, drop, ℤ, Option, IsSomeAnd, Result, Ok, Err}
 use Rattle.record.specs.declared.array.NamedArray.{NamedArray}
 use Rattle.record.specs.declared.tag.Tag.{Tag}
 use Rattle.record.specs.declared.cell.Cell.{Cell}
@@ -22,7 +22,7 @@ use Rattle.rules.specs.Run.{picks_of, outcome_of, first_state}
 use Rattle.rules.specs.Held.{held_in}
 use Rattle.rules.specs.Log.{names_in}
 use Rattle.store_enabled.specs.Enabled.{leads_in}
-use Rattle.store_flags.specs.Flags.{places, minus, Under, flags_of, Counted}
+use Rattle.store_flags.specs.Flags.{places, minus, Under}
 use Rattle.store.specs.Matching.{Matching}
 use Rattle.abstraction.specs.States.{state_held}
 use Rattle.abstraction.specs.Tables.{Arities, arrays_in}
@@ -32,10 +32,7 @@ use Rattle.start.specs.Begun.{machine_lent}
 use Rattle.fire.specs.Running.{machine_over, state_in, Arrived, Running, Went}
 use Rattle.engine.specs.declared.choice.Order.{Order}
 use Rattle.engine.specs.declared.choice.Order.TheVariants as Orders
-use Rattle.engine.specs.declared.choice.Choice.{Choice}
-use Rattle.engine.specs.declared.choice.Choice.TheVariants as Choices
-use Rattle.engine.specs.declared.turns.Turn.{Turn}
-use Rattle.engine.specs.declared.turns.Turn.TheVariants as Turns
+use Rattle.engine.specs.declared.turns.Fired.{Fired}
 
 -- ---- who chooses
 
@@ -77,12 +74,12 @@ BoundFits (Orders.Free k) = (0 < k) × (k < 65536)
 
 -- ---- what is held back, if the order looks at it
 
--- the flags of the held are flags of enabled ones
-abbrev pub HeldBeside : Order → (flags held : List ℕ) → Type 0
+-- the flags of the held are given, and are flags of enabled ones
+abbrev pub HeldBeside : Order → (flags : List ℕ) → (held : Option (List ℕ)) → Type 0
 HeldBeside Orders.Oldest flags held = Unit {0}
 HeldBeside Orders.Picks flags held = Unit {0}
 HeldBeside Orders.Log flags held = Unit {0}
-HeldBeside (Orders.Free k) flags held = Counted held × Under (flags_of held) (flags_of flags)
+HeldBeside (Orders.Free k) flags held = IsSomeAnd held (λ l. Under l flags)
 
 abbrev pub HeldBack : Order → List Instruction → (flags held ledger : List ℕ) → (used : ℕ) → Type 0
 HeldBack Orders.Oldest g flags held ledger used = Unit {0}
@@ -107,15 +104,8 @@ pub record Followed (g : List Instruction) (k : ℕ) (tables flags ledger : List
   pub grown : used ≤ n
   pub room : (n ≤ length ledger / token_width) × (n ≤ 2048)
   pub bound : (0 < k) × (k < 65536)
-  pub counted : Counted flags
-  pub unspent : FlagsUnspent (flags_of flags) ledger n
+  pub unspent : FlagsUnspent flags ledger n
   pub carried : Carried g tables ledger k used nexts held marks
-
-abbrev pub FiredOn : Order → List Instruction → (tables flags ledger : List ℕ) → (used n : ℕ) → (nexts held marks : List ℕ) → Type 0
-FiredOn Orders.Oldest g tables flags ledger used n nexts held marks = Unit {0}
-FiredOn Orders.Picks g tables flags ledger used n nexts held marks = Unit {0}
-FiredOn Orders.Log g tables flags ledger used n nexts held marks = Unit {0}
-FiredOn (Orders.Free k) g tables flags ledger used n nexts held marks = Followed g k tables flags ledger used n nexts held marks
 
 -- ---- a choice
 
@@ -136,12 +126,12 @@ pub record Ends (o : AnswerOutcome.Outcome) (chosen : Chosen Refusal Tag) : Type
   pub told : outcome_of outcome ≡ o
   pub ended : chosen ≡ ends outcome
 
-abbrev pub Chooses : Choice → Chosen Refusal Tag → (tables ledger : List ℕ) → (used : ℕ) → Type 0
-Chooses (Choices.At place) chosen tables ledger used = TakesPlace place chosen tables ledger used
-Chooses (Choices.Ended o) chosen tables ledger used = Ends o chosen
+abbrev pub Chooses : Result ℕ AnswerOutcome.Outcome → Chosen Refusal Tag → (tables ledger : List ℕ) → (used : ℕ) → Type 0
+Chooses (Ok place) chosen tables ledger used = TakesPlace place chosen tables ledger used
+Chooses (Err o) chosen tables ledger used = Ends o chosen
 
 -- the choice of a turn after f firings, for every graph whose tables these are and every store of cells
-abbrev pub ChosenAs : Choice → Order → (source : List ℕ) → (f : ℕ) → (tables flags held ledger : List ℕ) → (used : ℕ) → Type 0
+abbrev pub ChosenAs : Result ℕ AnswerOutcome.Outcome → Order → (source : List ℕ) → (f : ℕ) → (tables flags held ledger : List ℕ) → (used : ℕ) → Type 0
 ChosenAs r order source f tables flags held ledger used = (g : List Instruction) → Arities g tables → Arrived g (tokens used ledger) → HeldBack order g flags held ledger used → (table : List NamedArray) (capacity count : ℕ) (cs : List Cell)
     → Chooses r (chooser_of order source g table capacity count f (state_held (tokens used ledger) cs)) tables ledger used
 
@@ -167,10 +157,10 @@ pub record Halted (o : AnswerOutcome.Outcome) (g : List Instruction) (chosen : C
   pub same_ledger : ledger' ≡ ledger
   pub same_cells : cells' ≡ cells
 
-abbrev pub Turned : Turn → List Instruction → Chosen Refusal Tag → (asks : Tag → Effect Refusal Tag ℤ) → (tables links flags ledger' cells' : List ℕ) → (used : ℕ) → (ledger cells : List ℕ) → Type 0
-Turned (Turns.Fired n place) g chosen asks tables links flags ledger' cells' used ledger cells =
-    Advanced g chosen asks place tables links flags ledger' cells' n used ledger cells
-Turned (Turns.Ended o) g chosen asks tables links flags ledger' cells' used ledger cells =
+abbrev pub Turned : Result Fired AnswerOutcome.Outcome → List Instruction → Chosen Refusal Tag → (asks : Tag → Effect Refusal Tag ℤ) → (tables links flags ledger' cells' : List ℕ) → (used : ℕ) → (ledger cells : List ℕ) → Type 0
+Turned (Ok fired) g chosen asks tables links flags ledger' cells' used ledger cells =
+    Advanced g chosen asks fired.place tables links flags ledger' cells' fired.used used ledger cells
+Turned (Err o) g chosen asks tables links flags ledger' cells' used ledger cells =
     Halted o g chosen asks tables links flags ledger' cells' used ledger cells
 
 -- ---- a run
@@ -205,16 +195,9 @@ pub record Proceeded (e : End Refusal Tag ℤ) (r : Answer) (g : List Instructio
 
 -- "If only held ones remain, the answer is hung, at a used-up budget too.": the answer of the turns, and what is made of it
 pub data Settled (tables flags held ledger : List ℕ) (own r : Answer) : Type 0 where
-  rests_there : length (places (minus (flags_of flags) (flags_of held))) ≡ 0 → (o : AnswerOutcome.Outcome) → EndsWith o tables (tokens own.tokens ledger)
+  rests_there : length (places (minus flags held)) ≡ 0 → (o : AnswerOutcome.Outcome) → EndsWith o tables (tokens own.tokens ledger)
       → r ≡ record { outcome = o; firings = own.firings; tokens = own.tokens } → Settled tables flags held ledger own r
-  as_it_was : ¬ (length (places (minus (flags_of flags) (flags_of held))) ≡ 0) → r ≡ own → Settled tables flags held ledger own r
-
--- the same of every order: where nothing is held back the answer stays
-abbrev pub SettledBy : Order → (tables flags held ledger : List ℕ) → (own r : Answer) → Type 0
-SettledBy Orders.Oldest tables flags held ledger own r = r ≡ own
-SettledBy Orders.Picks tables flags held ledger own r = r ≡ own
-SettledBy Orders.Log tables flags held ledger own r = r ≡ own
-SettledBy (Orders.Free k) tables flags held ledger own r = Settled tables flags held ledger own r
+  as_it_was : ¬ (length (places (minus flags held)) ≡ 0) → r ≡ own → Settled tables flags held ledger own r
 
 -- the end of a run with a bound, which is none where it is 0, and its log
 abbrev pub end_bounded : (bound : ℕ) → (picks : List ℕ) → List Instruction → (tables ledger cells : List ℕ) → (used budget : ℕ) → End Refusal Tag ℤ

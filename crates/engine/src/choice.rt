@@ -1,5 +1,5 @@
 // What is chosen for a turn: of the enabled activities, or of those that a bound does not hold back, the one that the order of the run takes.
-ghost use Rattle.std.specs.Prelude.{ℕ, ◌%◌, ◌<◌, ◌≡◌, List, [], length, get_or};
+ghost use Rattle.std.specs.Prelude.{ℕ, ◌%◌, ◌<◌, ◌≡◌, List, [], length, get_or, unwrap_or, option_copied};
 ghost use Rattle.std.proofs.Math.Option.{none};
 ghost use Rattle.record.specs.Logs.{tag_named};
 ghost use Rattle.record.specs.TokensAndTags.{tokens};
@@ -7,15 +7,14 @@ ghost use Rattle.rules.specs.Log.{names_in};
 ghost use Rattle.store_chains.specs.Search.{FoundWithin};
 ghost use Rattle.store_enabled.specs.Store.{enabled_at};
 ghost use Rattle.store.specs.Matching.{Matching};
-ghost use Rattle.store_flags.specs.Flags.{places, minus, Under, flags_of, Counted};
+ghost use Rattle.store_flags.specs.Flags.{places, minus, Under};
 ghost use Rattle.engine.specs.Turns.{ByPicks, Plain, ByBound, Flagged, HeldBeside, ChosenAs};
 ghost use Rattle.engine.specs.declared.choice.Order.TheVariants.{Oldest, Picks, Log, Free};
 
-use record::log::Named;
 use record::tag::Tag;
 use record::{log, pick, token};
 use rules::answer::{Outcome, Refusal};
-use store_chains::{Found, Links};
+use store_chains::Links;
 use store_enabled::Tables;
 use store_flags::Flags;
 
@@ -29,13 +28,6 @@ pub enum Order {
     Free(usize),
 }
 
-// What is chosen for a turn: the enabled activity at a place; or the run is at its end.
-#[derive(Clone, Copy)]
-pub enum Choice {
-    At(usize),
-    Ended(Outcome),
-}
-
 // The number that a pick takes of e activities. One below e is that number itself, and needs no division.
 fn number_of(pick: usize, e: usize) -> usize
     requires { 0 < e }
@@ -45,14 +37,14 @@ fn number_of(pick: usize, e: usize) -> usize
 }
 
 // The first of the enabled activities.
-fn oldest(tables: &Tables, flags: &Flags, ledger: &[u8], used: usize) -> Choice
+fn oldest(tables: &Tables, flags: &Flags, ledger: &[u8], used: usize) -> Result<usize, Outcome>
     requires { Flagged tables.now flags.now ledger.now used }
     ensures { (flags held : List ℕ) → ChosenAs result Oldest [] 0 tables.now flags held ledger.now used }
 {
-    if store_flags::is_empty(flags) {
-        Choice::Ended(ending::ending(tables, ledger, used))
+    if flags.is_empty() {
+        Err(ending::ending(tables, ledger, used))
     } else {
-        Choice::At(store::enabled_at(flags, 0))
+        Ok(store::enabled_at(flags, 0))
     }
 }
 
@@ -64,24 +56,24 @@ fn by_pick(
     used: usize,
     picks: &[u8],
     firings: usize,
-) -> Choice
+) -> Result<usize, Outcome>
     requires { Flagged tables.now flags.now ledger.now used }
     ensures { (flags held : List ℕ) → ChosenAs result Picks picks.now firings tables.now flags held ledger.now used }
 {
     let e = store::enabled_count(flags);
     if e == 0 {
-        return Choice::Ended(ending::ending(tables, ledger, used));
+        return Err(ending::ending(tables, ledger, used));
     }
     let number = number_of(pick::pick_at(picks, firings), e);
-    Choice::At(store::enabled_at(flags, number))
+    Ok(store::enabled_at(flags, number))
 }
 
-// What a log names past its last record, or in one that is not whole: nothing.
-fn name_at(log: &[u8], i: usize) -> Named
+// The tag that record i of a log names. One that is not whole names none, and so does one past the last.
+fn name_at(log: &[u8], i: usize) -> Option<Tag>
     ensures { tag_named result ≡ get_or (names_in log.now) i none }
 {
     if log.len() / log::WIDTH < i {
-        return Named::Nothing;
+        return None;
     }
     log::name_at(log, i)
 }
@@ -95,16 +87,15 @@ fn place_named(
     ledger: &[u8],
     used: usize,
     tag: Tag,
-) -> Found
+) -> Option<usize>
     requires { Matching tables.now links.now flags.now ledger.now used }
     ensures { (result ≡ enabled_at tables.now (tokens used ledger.now) tag) × FoundWithin result used }
 {
-    if !store_flags::is_empty(flags) {
+    if !flags.is_empty() {
         let first = store::enabled_at(flags, 0);
         let t = token::token_at(ledger, first);
-        let own = t.tag;
-        if own.same(tag) {
-            return Found::At(first);
+        if t.tag == tag {
+            return Some(first);
         }
     }
     store::enabled_by_tag(tables, links, ledger, used, tag)
@@ -119,43 +110,46 @@ fn by_record(
     used: usize,
     log: &[u8],
     firings: usize,
-) -> Choice
+) -> Result<usize, Outcome>
     requires { Matching tables.now links.now flags.now ledger.now used }
     ensures { (flags held : List ℕ) → ChosenAs result Log log.now firings tables.now flags held ledger.now used }
 {
-    let not_enabled = Choice::Ended(Outcome::Refused(Refusal::NotEnabled, firings));
-    let Named::Activity(tag) = name_at(log, firings) else {
-        return not_enabled;
+    let not_enabled = Outcome::Refused(Refusal::NotEnabled, firings);
+    let Some(tag) = name_at(log, firings) else {
+        return Err(not_enabled);
     };
-    let Found::At(place) = place_named(tables, links, flags, ledger, used, tag) else {
-        return not_enabled;
+    let Some(place) = place_named(tables, links, flags, ledger, used, tag) else {
+        return Err(not_enabled);
     };
-    Choice::At(place)
+    Ok(place)
 }
 
 // The place of number k of the activities that are not held back. Where none is, they are all that are enabled.
 fn free_at(flags: &Flags, held: &Flags, k: usize) -> usize
-    requires { Counted flags.now × Counted held.now × Under (flags_of held.now) (flags_of flags.now) × (k < length (places (minus (flags_of flags.now) (flags_of held.now)))) }
-    ensures { result ≡ get_or (places (minus (flags_of flags.now) (flags_of held.now))) k 0 }
+    requires { Under held.now flags.now × (k < length (places (minus flags.now held.now))) }
+    ensures { result ≡ get_or (places (minus flags.now held.now)) k 0 }
 {
-    if store_flags::count(held) == 0 {
-        store_flags::select(flags, k)
+    if held.count() == 0 {
+        flags.select(k)
     } else {
-        store_flags::select_but(flags, held, k)
+        store_flags::Free::new(flags, held).select(k)
     }
 }
 
 // The first of those that are not held back: without picks each is 0.
-fn first_free(tables: &Tables, flags: &Flags, held: &Flags, ledger: &[u8], used: usize) -> Choice
-    requires { Flagged tables.now flags.now ledger.now used × Counted held.now × Under (flags_of held.now) (flags_of flags.now) }
+fn first_free(
+    tables: &Tables,
+    flags: &Flags,
+    held: &Flags,
+    ledger: &[u8],
+    used: usize,
+) -> Result<usize, Outcome>
+    requires { Flagged tables.now flags.now ledger.now used × Under held.now flags.now }
     ensures { (bound f : ℕ) → ChosenAs result (Free bound) [] f tables.now flags.now held.now ledger.now used }
 {
-    let place = store_flags::first_but(flags, held);
-    if place < 2048 {
-        Choice::At(place)
-    } else {
-        let outcome = ending::ending(tables, ledger, used);
-        Choice::Ended(outcome)
+    match store_flags::Free::new(flags, held).first() {
+        Some(place) => Ok(place),
+        None => Err(ending::ending(tables, ledger, used)),
     }
 }
 
@@ -168,22 +162,23 @@ fn by_free(
     used: usize,
     picks: &[u8],
     firings: usize,
-) -> Choice
-    requires { Flagged tables.now flags.now ledger.now used × Counted held.now × Under (flags_of held.now) (flags_of flags.now) }
+) -> Result<usize, Outcome>
+    requires { Flagged tables.now flags.now ledger.now used × Under held.now flags.now }
     ensures { (bound : ℕ) → ChosenAs result (Free bound) picks.now firings tables.now flags.now held.now ledger.now used }
 {
     if picks.len() == 0 {
         return first_free(tables, flags, held, ledger, used);
     }
-    let e = store_flags::count_but(flags, held);
+    let e = store_flags::Free::new(flags, held).count();
     if e == 0 {
-        return Choice::Ended(ending::ending(tables, ledger, used));
+        return Err(ending::ending(tables, ledger, used));
     }
     let number = number_of(pick::pick_at(picks, firings), e);
-    Choice::At(free_at(flags, held, number))
+    Ok(free_at(flags, held, number))
 }
 
-// The choice of a turn.
+// The choice of a turn: the place of an enabled activity, unless the run is at its end. An order that holds nothing back asks for no
+// flags of held ones.
 pub fn choose(
     order: Order,
     source: &[u8],
@@ -191,18 +186,18 @@ pub fn choose(
     tables: &Tables,
     links: &Links,
     flags: &Flags,
-    held: &Flags,
+    held: Option<&Flags>,
     ledger: &[u8],
     used: usize,
-) -> Choice
-    requires { Matching tables.now links.now flags.now ledger.now used × HeldBeside order flags.now held.now }
-    ensures { ChosenAs result order source.now firings tables.now flags.now held.now ledger.now used }
+) -> Result<usize, Outcome>
+    requires { Matching tables.now links.now flags.now ledger.now used × HeldBeside order flags.now (option_copied held) }
+    ensures { ChosenAs result order source.now firings tables.now flags.now (unwrap_or (option_copied held.entry) []) ledger.now used }
 {
     match order {
         Order::Oldest => oldest(tables, flags, ledger, used),
         Order::Picks => by_pick(tables, flags, ledger, used, source, firings),
         Order::Log => by_record(tables, links, flags, ledger, used, source, firings),
-        Order::Free(_) => by_free(tables, flags, held, ledger, used, source, firings),
+        Order::Free(_) => by_free(tables, flags, held.unwrap(), ledger, used, source, firings),
     }
 }
 

@@ -21,7 +21,7 @@ use crate::turns::Going;
 use checks::{bound, graph, stores};
 use record::cell;
 use rules::answer;
-use rules::answer::{Answer, Checked, Refusal};
+use rules::answer::{Answer, Fault, Refusal};
 use store_chains::Links;
 use store_enabled::Tables;
 use store_flags::Flags;
@@ -78,7 +78,7 @@ fn accepted(
 {
     let mut tables = [0u16; store_enabled::TABLES_LENGTH];
     let mut links = [0u16; store_chains::LENGTH];
-    let mut flags = [0u64; store_flags::LENGTH];
+    let mut flags = Flags::new();
     let used = start::begin(
         graph,
         arrays,
@@ -112,7 +112,7 @@ fn check_lent(
     bound: usize,
     ledger: usize,
     cells: usize,
-) -> Checked
+) -> Result<(), Fault>
     ensures { result ≡ resume_lent_checked graph.now arrays.now picks bound ledger cells }
 {
     let of_stores = bound::check(stores::check(0, picks, ledger, cells), bound);
@@ -138,12 +138,12 @@ fn resume(
 {
     let mut tables = [0u16; store_enabled::TABLES_LENGTH];
     let mut links = [0u16; store_chains::LENGTH];
-    let mut flags = [0u64; store_flags::LENGTH];
+    let mut flags = Flags::new();
     graph_tables::make(graph, arrays, &mut tables);
     if !saved::take(
         graph, &tables, &mut links, &mut flags, ledger, cells, firings, used,
     ) {
-        return answer::refused(Refusal::DamagedState, 0);
+        return answer::refused(Refusal::DamagedState.at(0));
     }
     let mut none = [0u8; 0];
     let own = go_on(
@@ -163,7 +163,7 @@ fn resume(
 }
 
 // Refusals 1 to 5, without a run.
-pub fn check_graph(graph: &[u8]) -> Checked
+pub fn check_graph(graph: &[u8]) -> Result<(), Fault>
     ensures { (result ≡ check_graph graph.now) × (values_checked result ≡ values_checked (check_graph graph.now)) }
 {
     graph::check(graph)
@@ -186,8 +186,8 @@ pub fn run(
     let k = bound as usize;
     let checked = checks::check_bounded(graph, arrays, inputs, picks, k, ledger.len(), cells.len());
     match checked {
-        Checked::Failed(r, place) => answer::refused(r, place),
-        Checked::Passed => {
+        Err(fault) => answer::refused(fault),
+        Ok(()) => {
             let mut none = [0u8; 0];
             accepted(
                 graph,
@@ -234,8 +234,8 @@ pub fn run_logged(
         log.len(),
     );
     match checked {
-        Checked::Failed(r, place) => answer::refused(r, place),
-        Checked::Passed => accepted(graph, arrays, inputs, picks, firings, k, ledger, cells, log),
+        Err(fault) => answer::refused(fault),
+        Ok(()) => accepted(graph, arrays, inputs, picks, firings, k, ledger, cells, log),
     }
 }
 
@@ -258,8 +258,8 @@ pub fn carry_on(
     let k = bound as usize;
     let checked = check_lent(graph, arrays, picks.len(), k, ledger.len(), cells.len());
     match checked {
-        Checked::Failed(r, place) => answer::refused(r, place),
-        Checked::Passed => resume(
+        Err(fault) => answer::refused(fault),
+        Ok(()) => resume(
             graph,
             arrays,
             picks,

@@ -10,22 +10,11 @@
 
 ghost use Rattle.std.specs.Prelude.{◌≡◌, ◌≤◌, ◌<◌, length, IfOk};
 
-use console::{read_full, say, say_decimal};
+use console::read_full;
 use record::{cell, instruction, pick, token};
 use rules::answer::Answer;
 use std::io;
-use text::Printed;
-
-fn say_number(rt: &HostRuntime, text: &[u8], n: usize) -> io::Result<()> {
-    say(rt, text)?;
-    say_decimal(rt, n as u64)
-}
-
-fn least(a: usize, b: usize) -> usize
-    ensures { (result ≤ a) × (result ≤ b) }
-{
-    if a < b { a } else { b }
-}
+use text::TooSmall;
 
 // Reads a part of a case to the start of buf, and answers how many bytes of buf are lent.
 fn read_part(rt: &HostRuntime, buf: &mut [u8]) -> io::Result<usize>
@@ -33,8 +22,8 @@ fn read_part(rt: &HostRuntime, buf: &mut [u8]) -> io::Result<usize>
 {
     let mut head = [0u8; 4];
     read_full(&mut rt.stdin(), &mut head)?;
-    let given = least(number::u16_at(&head, 0) as usize, buf.len());
-    let lent = least(number::u16_at(&head, 2) as usize, buf.len());
+    let given = (number::u16_at(&head, 0) as usize).min(buf.len());
+    let lent = (number::u16_at(&head, 2) as usize).min(buf.len());
     read_full(&mut rt.stdin(), &mut buf[0..given])?;
     Ok(lent)
 }
@@ -50,61 +39,42 @@ fn read_mark(rt: &HostRuntime) -> io::Result<bool> {
 fn first_changed(left: &[u8], lent: &[u8], from: usize) -> usize
     requires { length left.now ≡ length lent.now }
 {
-    let mut i = from;
-    while i < left.len() {
+    for i in from..left.len() {
         if left[i] != lent[i] {
             return i;
         }
-        i += 1;
     }
     left.len()
-}
-
-fn wide(x: u8) -> usize
-    ensures { result < 256 }
-{
-    x as usize
 }
 
 // A number of all bytes and their places, so that none goes unseen.
 fn sum(s: &[u8]) -> usize {
     let mut total = 0;
-    let mut i = 0;
-    while i < s.len() {
-        total = (total * 257 + wide(s[i]) + 1) % 65521;
-        i += 1;
+    for byte in s {
+        total = (total * 257 + *byte as usize + 1) % 65521;
     }
     total
 }
 
 // A line on a buffer that a run was lent and left: whether it is as lent from a byte on.
-fn say_buffer(
-    rt: &HostRuntime,
-    word: &[u8],
-    left: &[u8],
-    lent: &[u8],
-    from: usize,
-) -> io::Result<()>
+fn say_buffer(rt: &HostRuntime, word: &str, left: &[u8], lent: &[u8], from: usize) -> io::Result<()>
     requires { length left.now ≡ length lent.now }
 {
     let changed = first_changed(left, lent, from);
-    say(rt, word)?;
     if changed == left.len() {
-        say_number(rt, b" as lent from byte ", from)?;
+        print!(rt; "{word} as lent from byte {from}")?;
     } else {
-        say_number(rt, b" changed at byte ", changed)?;
+        print!(rt; "{word} changed at byte {changed}")?;
     }
-    say_number(rt, b" of ", left.len())?;
-    say_number(rt, b", sum ", sum(left))?;
-    say(rt, b"\n")
+    println!(rt; " of {}, sum {}", left.len(), sum(left))
 }
 
 // The lines of an answer, records of the ledger and cells.
 fn say_run(rt: &HostRuntime, answer: Answer, records: &[u8], cells: &[u8]) -> io::Result<()> {
     let mut out = [0u8; 200778];
     match text::print(answer, records, cells, &mut out) {
-        Printed::Done(n) => say(rt, &out[..n])?,
-        Printed::TooSmall => say(rt, b"no room\n")?,
+        Ok(n) => rt.write_all(&out[..n])?,
+        Err(TooSmall) => println!(rt; "no room")?,
     }
     Ok(())
 }
@@ -139,7 +109,7 @@ fn say_tokens(
 ) -> io::Result<()>
     requires { used ≤ length ledger.now }
 {
-    let start = least(first, used);
+    let start = first.min(used);
     let shown = cell_bytes(used, cells);
     say_run(rt, answer, &ledger[start..used], &cells[0..shown])
 }
@@ -158,8 +128,8 @@ fn say_left(
 {
     let used = used_bytes(answer.tokens, ledger);
     say_tokens(rt, answer, first, ledger, cells, used)?;
-    say_buffer(rt, b"ledger", ledger, lent_ledger, used)?;
-    say_buffer(rt, b"cells", cells, lent_cells, 0)
+    say_buffer(rt, "ledger", ledger, lent_ledger, used)?;
+    say_buffer(rt, "cells", cells, lent_cells, 0)
 }
 
 // Runs a case, and prints what it answered and left.
@@ -222,33 +192,30 @@ fn show_parts(rt: &HostRuntime) -> io::Result<()> {
 fn show_name(rt: &HostRuntime) -> io::Result<()> {
     let mut name = [0u8; 256];
     let n = read_part(rt, &mut name)?;
-    say(rt, &name[0..n])?;
-    say(rt, b"\n")
+    rt.write_all(&name[..n])?;
+    println!(rt)
 }
 
 // Shows n cases, or those before one whose mark is missing, and answers how many.
 fn show_cases(rt: &HostRuntime, n: usize) -> io::Result<usize> {
-    let mut shown = 0;
-    while shown < n {
+    for shown in 0..n {
         if !read_mark(rt)? {
             return Ok(shown);
         }
         show_name(rt)?;
         show_parts(rt)?;
-        shown += 1;
     }
-    Ok(shown)
+    Ok(n)
 }
 
 fn main(rt: HostRuntime) -> io::Result<()> {
     let mut head = [0u8; 2];
     read_full(&mut rt.stdin(), &mut head)?;
     let shown = show_cases(&rt, number::u16_at(&head, 0) as usize)?;
-    say_number(&rt, b"cases ", shown)?;
+    print!(rt; "cases {shown}")?;
     if read_mark(&rt)? {
-        say(&rt, b", all\n")?;
+        println!(rt; ", all")
     } else {
-        say(&rt, b", and then none where one should be\n")?;
+        println!(rt; ", and then none where one should be")
     }
-    Ok(())
 }

@@ -1,4 +1,5 @@
 -- The graph in bytes, one call of `put` at a time (`puts_variable`, `puts_operation`), and whole (`whole_graph`). Assumes nothing.
+use Rattle.std.proofs.Common.{Ok}
 use Prim.Native.Nat.{ℕ, zero, suc, ◌+◌, ◌-◌, ◌*◌, ◌≤◌, ◌<◌}
 use mathlib.Core.Path.{◌≡◌, refl, sym, ap, ◌∙◌}
 use mathlib.Core.Bool.{true, false}
@@ -19,7 +20,6 @@ use Rattle.record.specs.GraphRecords as Graph
 use Rattle.record.specs.Widths.{graph_width}
 use Rattle.record.proofs.Records.{length_instruction, instruction_bytes_back}
 use Rattle.record.proofs.Fitting.{bytes_drop}
-use Rattle.rules.specs.declared.answer.Checked.TheVariants.{Passed}
 use Rattle.rules.specs.Expression.{term_at, is_variable, instruction_for, out_for, code_for, sending, out, put_at, put_graph, graph_for, check_expression}
 use Rattle.rules.proofs.Passed.{get_d_past}
 use Rattle.rules.proofs.ExpressionPassed.{OperationAt, passed}
@@ -100,7 +100,7 @@ lent_rows (suc n) l b long =
 
 -- ---- the whole graph
 
-module _ (s : List ℕ) (ok : check_expression s ≡ Passed) (lent : List ℕ) (b : Bytes lent) (room : graph_width * suc (length (expression_of s)) ≤ length lent) where
+module _ (s : List ℕ) (ok : check_expression s ≡ Ok tt) (lent : List ℕ) (b : Bytes lent) (room : graph_width * suc (length (expression_of s)) ≤ length lent) where
   abbrev us : List Term
   us = expression_of s
 

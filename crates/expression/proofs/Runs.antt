@@ -1,5 +1,6 @@
 -- R-14 over bytes, proved (`expressions_run`): what `to_graph` wrote is the graph's bytes, and what the run of it leaves in the ledger tells what OUT received.
 -- Assumes nothing.
+use Rattle.std.proofs.Common.{Ok, Err}
 use Prim.Native.Nat.{ℕ, zero, suc, ◌*◌, ◌/◌, ◌<◌}
 use mathlib.Core.Path.{◌≡◌, refl, sym, ap, subst, ◌∙◌}
 use mathlib.Core.List.{List, [], ◌∷◌, map}
@@ -10,6 +11,7 @@ use lib.Seq.{take_at}
 use lib.IntN.{ℤ}
 use mir.Syntax.{w32}
 use mir.Val.{SFits}
+use Rattle.std.specs.Prelude.{Option, None, Some}
 use Rattle.number.specs.Number.{Bytes, number32, signed_of}
 use Rattle.number.proofs.Numbers.{number32_small}
 use Rattle.buffer.specs.Rows.{joined, All}
@@ -24,15 +26,11 @@ use Rattle.record.specs.TokensAndTags as Tokens
 use Rattle.record.specs.Widths.{graph_width, token_width, cell_width, value_width}
 use Rattle.record.proofs.Records.{length_instruction, tokens_joined}
 use Rattle.record.proofs.Fitting.{signed_fits, rows_fit, instructions_written, tokens_written}
-use Rattle.arithmetic.specs.declared.Computed.{Computed}
-use Rattle.arithmetic.specs.declared.Computed.TheVariants.{Value, OutOfRange}
 use Rattle.machine.specs.Machine.{Key, Content, live, Token, Machine, End, Ledger, same_key, at, find, when}
 use Rattle.machine.proofs.View.{none_some}
+use Rattle.rules.specs.Check.{Checked}
 use Rattle.rules.specs.declared.answer.Refusal.{Refusal}
 use Rattle.rules.specs.declared.answer.Answer.{Answer}
-use Rattle.rules.specs.declared.answer.Checked.{Checked}
-use Rattle.rules.specs.declared.answer.Checked.TheVariants.{Passed, Failed}
-use Rattle.rules.specs.declared.answer.Made.TheVariants.{Records}
 use Rattle.rules.specs.Fits.{AllFit}
 use Rattle.rules.specs.Run.{token_record, outcome_of, ran_to, Result, answer, ledger_after, Ran}
 use Rattle.rules.specs.Runs.{LeftByRun, RanOn}
@@ -47,12 +45,12 @@ use Rattle.expression.proofs.Terms.{passed_values}
 
 -- ---- the bytes that `to_graph` wrote
 
-module _ (expression lent output : List ℕ) (n : ℕ) (made : MadeFrom expression (Records (suc n)) lent output) where
+module _ (expression lent output : List ℕ) (n : ℕ) (made : MadeFrom expression (Ok (suc n)) lent output) where
   abbrev ts : List Term
   ts = expression_of expression
 
   record Wrote : Type 0 where
-    passed : check_made expression (length lent) ≡ Passed
+    passed : check_made expression (length lent) ≡ Ok tt
     many : n ≡ length ts
     graph : take (suc n * graph_width) output ≡ graph_bytes ts
 
@@ -60,9 +58,9 @@ module _ (expression lent output : List ℕ) (n : ℕ) (made : MadeFrom expressi
   unfolding graph_bytes
   wrote = go (check_made expression (length lent)) refl made.answered made.output_left
     where
-      go : (c : Checked) → check_made expression (length lent) ≡ c → Records (suc n) ≡ made_of c (suc (length ts)) → output ≡ output_of c (graph_for ts) lent → Wrote
-      go (Failed r p) e a o = let z : ◌≡◌ {A = ℕ} 0 1 = cc in absurd (omega arith)
-      go Passed e a o =
+      go : (c : Checked) → check_made expression (length lent) ≡ c → Ok (suc n) ≡ made_of c (suc (length ts)) → output ≡ output_of c (graph_for ts) lent → Wrote
+      go (Err fault) e a o = let z : ◌≡◌ {A = ℕ} 0 1 = cc in absurd (omega arith)
+      go (Ok _) e a o =
           let same : n ≡ length ts = cc in
           let size : length (joined Graph.encode_instruction (graph_for ts)) ≡ suc n * graph_width = length_joined graph_width Graph.encode_instruction length_instruction (graph_for ts) ∙ ap (λ (m : ℕ). m * graph_width) (length_graph ts ∙ ap suc (sym same)) in
           record { passed = e; many = same; graph = ap (take (suc n * graph_width)) o ∙ take_at (joined Graph.encode_instruction (graph_for ts)) _ (suc n * graph_width) size }
@@ -133,10 +131,10 @@ module _ (e : End Refusal Tag ℤ) (lent : List ℕ) (x : LeftByRun) (answered :
           received = token_left i low (record { key = record { tag = root_of (length ts); port = 0 }; content = live v }) there;
         }
 
-    gives : (c : Computed) → EvaluatesExpression ts capacity cells c e → Gives (evaluated_of Passed c) (length ts) x
+    gives : (c : Option ℤ) → EvaluatesExpression ts capacity cells c e → Gives (evaluated_of (Ok tt) c) (length ts) x
     unfolding answer
-    gives (Value v) r = out_received v r
-    gives OutOfRange (place, r) = (place, ap (λ (a : Answer). a.outcome) answered ∙ ap outcome_of r)
+    gives (Some v) r = out_received v r
+    gives None (place, r) = (place, ap (λ (a : Answer). a.outcome) answered ∙ ap outcome_of r)
 
 -- ---- graph and inputs are bytes
 

@@ -1,4 +1,5 @@
 -- The records of an expression's bytes as the list of its terms. Assumes nothing.
+use Rattle.std.proofs.Common.{Ok}
 use Prim.Native.Nat.{ℕ, suc, ◌*◌, ◌/◌, ◌≤◌, ◌<◌}
 use mathlib.Core.Path.{◌≡◌}
 use mathlib.Core.Bool.{true}
@@ -13,7 +14,6 @@ use Rattle.record.specs.declared.term.Term.{Term}
 use Rattle.record.specs.ExpressionRecords.{decode_term, expression_of, term_in}
 use Rattle.record.specs.Widths.{term_width, graph_width, value_width}
 use Rattle.rules.specs.declared.answer.Refusal.TheVariants.{BadStore, GraphTooLong}
-use Rattle.rules.specs.declared.answer.Checked.TheVariants.{Passed}
 use Rattle.rules.specs.Expression.{most_terms, is_expression_length, term_at, is_variable, count, check_expression, check_made, check_values}
 use Rattle.rules.proofs.Passed.{both}
 use Rattle.rules.proofs.Accepted.{whole_bytes}
@@ -41,17 +41,17 @@ module _ (n : ℕ) (e : is_expression_length n ≡ true) where
   few_terms = (whole_bytes term_width most_terms n (both (leb 1 n) (whole term_width most_terms n) e).1).1
 
 -- of an expression that passed
-pub passed_terms : (s : List ℕ) → check_expression s ≡ Passed → (0 < length s / term_width) × (length s / term_width ≤ most_terms)
+pub passed_terms : (s : List ℕ) → check_expression s ≡ Ok tt → (0 < length s / term_width) × (length s / term_width ≤ most_terms)
 passed_terms s e = let ok = passed s e in (let some = ok.some in omega (arith, length_terms s), let few = ok.few in omega (arith, length_terms s))
 
 -- of a graph that fits, and of values for each variable
-pub passed_made : (s : List ℕ) (room : ℕ) → check_made s room ≡ Passed → (check_expression s ≡ Passed) × (graph_width * suc (length (expression_of s)) ≤ room)
+pub passed_made : (s : List ℕ) (room : ℕ) → check_made s room ≡ Ok tt → (check_expression s ≡ Ok tt) × (graph_width * suc (length (expression_of s)) ≤ room)
 unfolding check_made
 passed_made s room e =
     let (ok, fits) = both-passed (check_expression s) _ e in
     (ok, leb-true (graph_width * suc (length (expression_of s))) room (demanded _ GraphTooLong 0 fits))
 
-pub passed_values : (s : List ℕ) (n : ℕ) → check_values s n ≡ Passed → (check_expression s ≡ Passed) × (n ≡ count is_variable (expression_of s) * value_width)
+pub passed_values : (s : List ℕ) (n : ℕ) → check_values s n ≡ Ok tt → (check_expression s ≡ Ok tt) × (n ≡ count is_variable (expression_of s) * value_width)
 unfolding check_values
 passed_values s n e =
     let (ok, many) = both-passed (check_expression s) _ e in

@@ -1,9 +1,8 @@
 -- Working definition: no public promise cites it.
 -- What is kept on the way through an expression: the records named so far, and the instruction of each record. Assumes nothing.
-use Rattle.std.specs.Prelude.{ℕ, ◌<◌, ◌≡◌, Bool, true, false, List, length, get_or}
+use Rattle.std.specs.Prelude.{ℕ, ◌<◌, ◌≡◌, Bool, true, false, List, length, get_or, Ok}
 use Rattle.record.specs.declared.term.Term.{Term}
 use Rattle.record.specs.ExpressionRecords.{expression_of}
-use Rattle.rules.specs.declared.answer.Checked.TheVariants.{Passed}
 use Rattle.rules.specs.Check.{any}
 use Rattle.rules.specs.Expression.{most_terms, is_operation, names, instruction_for, check_expression}
 
@@ -18,6 +17,6 @@ NamesInside t = is_operation t ≡ true → (t.left < most_terms) × (t.right < 
 
 -- the table has the instruction of each record of an expression that passed
 pub record NumberedRecords (expression table : List ℕ) : Type 0 where
-  pub passed : check_expression expression ≡ Passed
+  pub passed : check_expression expression ≡ Ok tt
   pub size : length table ≡ most_terms
   pub says : (i : ℕ) → i < length (expression_of expression) → get_or table i 0 ≡ instruction_for (expression_of expression) i

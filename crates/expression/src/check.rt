@@ -1,14 +1,13 @@
 // What is refused: 25, by the length, by the records in turn and by those never named; then 26 for a graph, or 7 for values.
-ghost use Rattle.std.specs.Prelude.{◌≡◌, true, List, [], ◌∷◌, ◌++◌, ◌≤◌, length};
+ghost use Rattle.std.specs.Prelude.{◌≡◌, true, List, [], ◌∷◌, ◌++◌, ◌≤◌, length, Ok};
 ghost use Rattle.record.specs.ExpressionRecords.{expression_of};
-ghost use Rattle.rules.specs.declared.answer.Checked.TheVariants.{Passed};
 ghost use Rattle.rules.specs.Expression.{most_terms, is_expression_length, good_term, check_expression, check_made, check_values, check_good_terms, check_named};
 ghost use Rattle.expression.specs.Tables.{MarkedNamed, NamesInside};
 
 use crate::numbers;
 use record::term::Term;
 use record::{instruction, term};
-use rules::answer::{Checked, Refusal};
+use rules::answer::{Fault, Refusal};
 
 // The most records of an expression.
 pub const MOST: usize = 100;
@@ -52,76 +51,63 @@ fn mark(named: &mut [bool; MOST], t: Term)
 }
 
 // The first record with a bad field or naming one already named; the table then has what all name.
-fn terms(expression: &[u8], named: &mut [bool; MOST]) -> Checked
+fn terms(expression: &[u8], named: &mut [bool; MOST]) -> Result<(), Fault>
     requires { (is_expression_length (length expression.now) ≡ true) × MarkedNamed [] named.old }
     ensures value { result ≡ check_good_terms (expression_of expression.now) }
-    ensures marked_named { result ≡ Passed → MarkedNamed (expression_of expression.now) named.new }
+    ensures marked_named { result ≡ Ok tt → MarkedNamed (expression_of expression.now) named.new }
 {
-    let mut i = 0;
-    while i < expression.len() / term::WIDTH {
+    for i in 0..expression.len() / term::WIDTH {
         let t = term::term_at(expression, i);
         if !good_term(named, i, t) {
-            return Checked::Failed(Refusal::BadExpression, i);
+            return Err(Refusal::BadExpression.at(i));
         }
         mark(named, t);
-        i += 1;
     }
-    Checked::Passed
+    Ok(())
 }
 
 // The first record never named, of all but the last.
-fn all_named(expression: &[u8], named: &[bool; MOST]) -> Checked
+fn all_named(expression: &[u8], named: &[bool; MOST]) -> Result<(), Fault>
     requires { (is_expression_length (length expression.now) ≡ true) × MarkedNamed (expression_of expression.now) named.now }
     ensures { result ≡ check_named (expression_of expression.now) }
 {
-    let mut j = 0;
-    while j + 1 < expression.len() / term::WIDTH {
+    for j in 0..expression.len() / term::WIDTH - 1 {
         if !named[j] {
-            return Checked::Failed(Refusal::BadExpression, j);
+            return Err(Refusal::BadExpression.at(j));
         }
-        j += 1;
     }
-    Checked::Passed
+    Ok(())
 }
 
-fn check(expression: &[u8]) -> Checked
+fn check(expression: &[u8]) -> Result<(), Fault>
     ensures { result ≡ check_expression expression.now }
 {
     if !good_length(expression.len()) {
-        return Checked::Failed(Refusal::BadExpression, 0);
+        return Err(Refusal::BadExpression.at(0));
     }
     let mut named = [false; MOST];
-    let of_terms = terms(expression, &mut named);
-    let Checked::Passed = of_terms else {
-        return of_terms;
-    };
+    terms(expression, &mut named)?;
     all_named(expression, &named)
 }
 
 // For a graph with `room` bytes.
-pub fn made(expression: &[u8], room: usize) -> Checked
+pub fn made(expression: &[u8], room: usize) -> Result<(), Fault>
     ensures { result ≡ check_made expression.now room }
 {
-    let of_expression = check(expression);
-    let Checked::Passed = of_expression else {
-        return of_expression;
-    };
+    check(expression)?;
     if room < instruction::WIDTH * (expression.len() / term::WIDTH + 1) {
-        return Checked::Failed(Refusal::GraphTooLong, 0);
+        return Err(Refusal::GraphTooLong.at(0));
     }
-    Checked::Passed
+    Ok(())
 }
 
 // For values of `len` bytes.
-pub fn values(expression: &[u8], len: usize) -> Checked
+pub fn values(expression: &[u8], len: usize) -> Result<(), Fault>
     ensures { result ≡ check_values expression.now len }
 {
-    let of_expression = check(expression);
-    let Checked::Passed = of_expression else {
-        return of_expression;
-    };
+    check(expression)?;
     if len != numbers::variables(expression) * term::VALUE_WIDTH {
-        return Checked::Failed(Refusal::BadStore, 0);
+        return Err(Refusal::BadStore.at(0));
     }
-    Checked::Passed
+    Ok(())
 }

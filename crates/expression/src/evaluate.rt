@@ -1,14 +1,12 @@
 // The value of an expression, by recursion on a falling record number.
-ghost use Rattle.std.specs.Prelude.{◌≡◌, ◌/◌, ◌<◌, length, get_or, pos};
+ghost use Rattle.std.specs.Prelude.{◌≡◌, ◌/◌, ◌<◌, length, get_or, pos, Ok};
 ghost use Rattle.record.specs.ExpressionRecords.{expression_of};
 ghost use Rattle.record.specs.Widths.{value_width};
-ghost use Rattle.rules.specs.declared.answer.Checked.TheVariants.{Passed};
 ghost use Rattle.rules.specs.Expression.{arithmetic_of, combined, variables_of, is_variable, count, value_at, expression_value, check_values};
 ghost use Rattle.expression.specs.Tables.{NumberedRecords};
 
 use crate::check::MOST;
 use crate::numbers;
-use arithmetic::Computed;
 use record::operation::Arithmetic;
 use record::term;
 
@@ -28,16 +26,10 @@ fn arithmetic_of(kind: u8) -> Arithmetic
 }
 
 // What is out of range stays so.
-fn combine(op: Arithmetic, left: Computed, right: Computed) -> Computed
+fn combine(op: Arithmetic, left: Option<i32>, right: Option<i32>) -> Option<i32>
     ensures { result ≡ combined op left right }
 {
-    let Computed::Value(a) = left else {
-        return Computed::OutOfRange;
-    };
-    let Computed::Value(b) = right else {
-        return Computed::OutOfRange;
-    };
-    arithmetic::compute(op, a, b)
+    arithmetic::compute(op, left?, right?)
 }
 
 // The value of variable k.
@@ -49,14 +41,14 @@ fn variable(values: &[u8], k: usize) -> i32
 }
 
 // The value of record i.
-fn value_at(expression: &[u8], numbers: &[u16; MOST], values: &[u8], i: usize) -> Computed
+fn value_at(expression: &[u8], numbers: &[u16; MOST], values: &[u8], i: usize) -> Option<i32>
     requires { NumberedRecords expression.now numbers.now × (i < length (expression_of expression.now))
         × (length values.now / value_width ≡ count is_variable (expression_of expression.now)) }
     ensures { result ≡ value_at (expression_of expression.now) (variables_of values.now) i }
 {
     let t = term::term_at(expression, i);
     if t.kind == 0 {
-        return Computed::Value(variable(values, numbers[i] as usize));
+        return Some(variable(values, numbers[i] as usize));
     }
     let left = value_at(expression, numbers, values, t.left as usize);
     let right = value_at(expression, numbers, values, t.right as usize);
@@ -64,8 +56,8 @@ fn value_at(expression: &[u8], numbers: &[u16; MOST], values: &[u8], i: usize) -
 }
 
 // The value of the last record.
-pub fn whole(expression: &[u8], values: &[u8]) -> Computed
-    requires { check_values expression.now (length values.now) ≡ Passed }
+pub fn whole(expression: &[u8], values: &[u8]) -> Option<i32>
+    requires { check_values expression.now (length values.now) ≡ Ok tt }
     ensures { result ≡ expression_value (expression_of expression.now) (variables_of values.now) }
 {
     let numbers = numbers::numbers(expression);

@@ -1,8 +1,7 @@
 // The instruction of each record: variables first, then operations, both in record order.
-ghost use Rattle.std.specs.Prelude.{◌≡◌, cond, [], ◌∷◌, ◌+◌, ◌-◌, ◌/◌, ◌≤◌, length};
+ghost use Rattle.std.specs.Prelude.{◌≡◌, cond, [], ◌∷◌, ◌+◌, ◌-◌, ◌/◌, ◌≤◌, length, Ok};
 ghost use Rattle.record.specs.ExpressionRecords.{expression_of};
 ghost use Rattle.record.specs.Widths.{term_width};
-ghost use Rattle.rules.specs.declared.answer.Checked.TheVariants.{Passed};
 ghost use Rattle.rules.specs.Expression.{is_variable, count, check_expression};
 ghost use Rattle.expression.specs.Tables.{NumberedRecords};
 
@@ -22,10 +21,8 @@ pub fn variables(expression: &[u8]) -> usize
     ensures { (result ≡ count is_variable (expression_of expression.now)) × (result ≤ length expression.now / term_width) }
 {
     let mut n = 0;
-    let mut i = 0;
-    while i < expression.len() / term::WIDTH {
+    for i in 0..expression.len() / term::WIDTH {
         n += variable_of(term::term_at(expression, i));
-        i += 1;
     }
     n
 }
@@ -43,18 +40,16 @@ fn number_of(t: Term, before: usize, i: usize, n: usize) -> usize
 }
 
 pub fn numbers(expression: &[u8]) -> [u16; MOST]
-    requires { check_expression expression.now ≡ Passed }
+    requires { check_expression expression.now ≡ Ok tt }
     ensures { NumberedRecords expression.now result }
 {
     let n = variables(expression);
     let mut numbers = [0u16; MOST];
     let mut before = 0;
-    let mut i = 0;
-    while i < expression.len() / term::WIDTH {
+    for i in 0..expression.len() / term::WIDTH {
         let t = term::term_at(expression, i);
         numbers[i] = number_of(t, before, i, n) as u16;
         before += variable_of(t);
-        i += 1;
     }
     numbers
 }

@@ -1,10 +1,9 @@
 // The graph of an expression, by recursion on a falling record number.
-ghost use Rattle.std.specs.Prelude.{◌≡◌, List, ◌++◌, ℕ, suc, ◌*◌, ◌≤◌, ◌<◌, length, pos};
+ghost use Rattle.std.specs.Prelude.{◌≡◌, List, ◌++◌, ℕ, suc, ◌*◌, ◌≤◌, ◌<◌, length, pos, Ok};
 ghost use Rattle.buffer.specs.Rows.{joined, written_over};
 ghost use Rattle.record.specs.ExpressionRecords.{expression_of};
 ghost use Rattle.record.specs.GraphRecords as Graph;
 ghost use Rattle.record.specs.Widths.{graph_width};
-ghost use Rattle.rules.specs.declared.answer.Checked.TheVariants.{Passed};
 ghost use Rattle.rules.specs.Expression.{code_for, graph_for, put_at, check_made};
 ghost use Rattle.rules.specs.Expression as Expression;
 ghost use Rattle.expression.specs.Tables.{NumberedRecords};
@@ -68,7 +67,7 @@ fn put(expression: &[u8], numbers: &[u16; MOST], i: usize, to: Destination, grap
 
 // Writes the graph: OUT, then from the last record down, which sends to it.
 pub fn write(expression: &[u8], graph: &mut [u8])
-    requires { check_made expression.now (length graph.old) ≡ Passed }
+    requires { check_made expression.now (length graph.old) ≡ Ok tt }
     ensures { graph.new ≡ written_over Graph.encode_instruction (graph_for (expression_of expression.now)) graph.old }
 {
     let numbers = numbers::numbers(expression);

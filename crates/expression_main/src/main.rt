@@ -4,30 +4,13 @@
 ghost use Rattle.std.specs.Prelude.{◌/◌, ◌≤◌, ◌<◌, length};
 ghost use Rattle.record.specs.Widths.{term_width, value_width, graph_width, token_width};
 
-use console::{say, say_decimal};
 use record::instruction::Instruction;
 use record::tag::{Path, Tag};
 use record::token::{Content, Token};
 use record::{instruction, term, token};
 use rules::answer;
-use rules::answer::{Answer, Evaluated, Made};
+use rules::answer::Answer;
 use std::io;
-
-fn say_number(rt: &impl Print, text: &[u8], n: usize) -> io::Result<()> {
-    say(rt, text)?;
-    say_decimal(rt, n as u64)
-}
-
-fn say_value(rt: &impl Print, text: &[u8], value: i32) -> io::Result<()> {
-    say(rt, text)?;
-    if value < 0 {
-        say(rt, b"-")?;
-        say_decimal(rt, (4294967296 - number::bits(value) as u64) as u64)?;
-    } else {
-        say_decimal(rt, number::bits(value) as u64)?;
-    }
-    Ok(())
-}
 
 // Record i of an expression.
 fn put_term(expression: &mut [u8], i: usize, kind: u8, left: u8, right: u8)
@@ -41,13 +24,7 @@ fn put_term(expression: &mut [u8], i: usize, kind: u8, left: u8, right: u8)
 fn put_value(values: &mut [u8], inputs: &mut [u8], k: usize, value: i32)
     requires { (k < length values.old / value_width) × (k < length inputs.old / token_width) × (k < 65536) }
 {
-    let bits = number::bits(value);
-    let bytes = [
-        (bits % 256) as u8,
-        (bits / 256 % 256) as u8,
-        (bits / 65536 % 256) as u8,
-        (bits / 65536 / 256 % 256) as u8,
-    ];
+    let bytes = value.to_le_bytes();
     buffer::put_row(values, term::VALUE_WIDTH, k, &bytes);
     let tag = Tag {
         path: Path::ROOT,
@@ -65,20 +42,16 @@ fn put_value(values: &mut [u8], inputs: &mut [u8], k: usize, value: i32)
 // An instruction with its destination.
 fn say_instruction(rt: &impl Print, i: usize, r: Instruction) -> io::Result<()> {
     let first = r.first;
-    say_number(rt, b"  ", i)?;
-    say_number(rt, b": code ", r.code as usize)?;
+    print!(rt; "  {i}: code {}", r.code)?;
     if r.fanout == 1 {
-        say_number(rt, b" to ", first.instruction as usize)?;
-        say_number(rt, b" port ", first.port as usize)?;
+        print!(rt; " to {} port {}", first.instruction, first.port)?;
     }
-    say(rt, b"\n")
+    println!(rt)
 }
 
 fn say_graph(rt: &impl Print, graph: &[u8]) -> io::Result<()> {
-    let mut i = 0;
-    while i < graph.len() / instruction::WIDTH {
+    for i in 0..graph.len() / instruction::WIDTH {
         say_instruction(rt, i, instruction::instruction_at(graph, i))?;
-        i += 1;
     }
     Ok(())
 }
@@ -88,7 +61,7 @@ fn say_if_out(rt: &impl Print, t: Token, out: usize) -> io::Result<()> {
     let content = t.content;
     if tag.instruction as usize == out {
         if let Content::Live(v) = content {
-            say_value(rt, b", OUT has ", v)?;
+            print!(rt; ", OUT has {v}")?;
         }
     }
     Ok(())
@@ -96,17 +69,15 @@ fn say_if_out(rt: &impl Print, t: Token, out: usize) -> io::Result<()> {
 
 // The token at OUT, which is the graph's last instruction. Bytes past the used records are zeros, which name the first.
 fn say_out(rt: &impl Print, ledger: &[u8], out: usize) -> io::Result<()> {
-    let mut i = 0;
-    while i < ledger.len() / token::WIDTH {
+    for i in 0..ledger.len() / token::WIDTH {
         say_if_out(rt, token::token_at(ledger, i), out)?;
-        i += 1;
     }
     Ok(())
 }
 
 fn say_run(
     rt: &impl Print,
-    name: &[u8],
+    name: &str,
     graph: &[u8],
     inputs: &[u8],
     picks: &[u8],
@@ -116,25 +87,28 @@ fn say_run(
     let mut cells = [0u8; 8];
     let a: Answer = engine::run(graph, b"", inputs, picks, 2048, 0, &mut ledger, &mut cells);
     let outcome = a.outcome;
-    say(rt, name)?;
-    say_number(rt, b"word ", answer::word(outcome) as usize)?;
-    say_number(rt, b", firings ", a.firings)?;
-    say_number(rt, b", tokens ", a.tokens)?;
+    print!(rt;
+        "{name}word {}, firings {}, tokens {}",
+        answer::word(outcome),
+        a.firings,
+        a.tokens
+    )?;
     say_out(rt, &ledger, out)?;
-    say(rt, b"\n")
+    println!(rt)
 }
 
 fn say_evaluated(rt: &impl Print, expression: &[u8], values: &[u8]) -> io::Result<()> {
     let evaluated = expression::value(expression, values);
     match evaluated {
-        Evaluated::Value(v) => {
-            say_value(rt, b"  value ", v)?;
-            say(rt, b"\n")?;
+        Ok(v) => {
+            println!(rt; "  value {v}")?;
         }
-        Evaluated::Refused(r, place) => {
-            say_number(rt, b"  no value: refused ", answer::number(r) as usize)?;
-            say_number(rt, b" at ", place)?;
-            say(rt, b"\n")?;
+        Err(fault) => {
+            println!(rt;
+                "  no value: refused {} at {}",
+                answer::number(fault.refusal),
+                fault.place
+            )?;
         }
     }
     Ok(())
@@ -158,13 +132,13 @@ fn say_made(
         say_graph(rt, graph)?;
     }
     say_evaluated(rt, expression, values)?;
-    say_run(rt, b"  oldest first: ", graph, inputs, b"", out)?;
-    say_run(rt, b"  by picks: ", graph, inputs, &picks, out)
+    say_run(rt, "  oldest first: ", graph, inputs, b"", out)?;
+    say_run(rt, "  by picks: ", graph, inputs, &picks, out)
 }
 
 fn say_expression(
     rt: &impl Print,
-    name: &[u8],
+    name: &str,
     whole: bool,
     expression: &[u8],
     values: &[u8],
@@ -172,21 +146,21 @@ fn say_expression(
 ) -> io::Result<()> {
     let mut graph = [0u8; 100 * instruction::WIDTH];
     let made = expression::to_graph(expression, &mut graph);
-    say(rt, name)?;
     match made {
-        Made::Records(records) => {
-            say_number(rt, b": records ", records)?;
-            say(rt, b"\n")?;
+        Ok(records) => {
+            println!(rt; "{name}: records {records}")?;
             if 100 < records {
                 return Ok(());
             }
             let end = records * instruction::WIDTH;
             say_made(rt, whole, &graph[0..end], expression, values, inputs)?;
         }
-        Made::Refused(r, place) => {
-            say_number(rt, b": refused ", answer::number(r) as usize)?;
-            say_number(rt, b" at ", place)?;
-            say(rt, b"\n")?;
+        Err(fault) => {
+            println!(rt;
+                "{name}: refused {} at {}",
+                answer::number(fault.refusal),
+                fault.place
+            )?;
         }
     }
     Ok(())
@@ -198,11 +172,11 @@ fn say_variable(rt: &impl Print) -> io::Result<()> {
     let mut values = [0u8; term::VALUE_WIDTH];
     let mut inputs = [0u8; token::WIDTH];
     put_value(&mut values, &mut inputs, 0, -7);
-    say_expression(rt, b"x", true, &expression, &values, &inputs)
+    say_expression(rt, "x", true, &expression, &values, &inputs)
 }
 
 // (x SUB y) DIV z, with z before y.
-fn say_quotient(rt: &impl Print, name: &[u8], x: i32, y: i32, z: i32) -> io::Result<()> {
+fn say_quotient(rt: &impl Print, name: &str, x: i32, y: i32, z: i32) -> io::Result<()> {
     let mut expression = [0u8; 5 * term::WIDTH];
     let mut values = [0u8; 3 * term::VALUE_WIDTH];
     let mut inputs = [0u8; 3 * token::WIDTH];
@@ -217,7 +191,7 @@ fn say_quotient(rt: &impl Print, name: &[u8], x: i32, y: i32, z: i32) -> io::Res
 // x and y, and an operation of that kind on those records.
 fn say_pair(
     rt: &impl Print,
-    name: &[u8],
+    name: &str,
     kind: u8,
     left: u8,
     right: u8,
@@ -234,45 +208,42 @@ fn say_pair(
 }
 
 // What `to_graph` says where the output has 31 bytes.
-fn say_room(rt: &impl Print, name: &[u8], expression: &[u8]) -> io::Result<()> {
+fn say_room(rt: &impl Print, name: &str, expression: &[u8]) -> io::Result<()> {
     let mut graph = [9u8; 31];
     let made = expression::to_graph(expression, &mut graph);
-    say(rt, name)?;
     match made {
-        Made::Records(records) => say_number(rt, b": records ", records)?,
-        Made::Refused(r, place) => {
-            say_number(rt, b": refused ", answer::number(r) as usize)?;
-            say_number(rt, b" at ", place)?;
+        Ok(records) => println!(rt; "{name}: records {records}"),
+        Err(fault) => {
+            println!(rt;
+                "{name}: refused {} at {}",
+                answer::number(fault.refusal),
+                fault.place
+            )
         }
     }
-    say(rt, b"\n")
 }
 
 fn say_rooms(rt: &impl Print) -> io::Result<()> {
     let expression = [0u8; 9];
-    say_room(rt, b"no records", &expression[0..0])?;
-    say_room(rt, b"a record and a byte", &expression)?;
-    say_room(rt, b"31 bytes of room", &expression[0..8])
+    say_room(rt, "no records", &expression[0..0])?;
+    say_room(rt, "a record and a byte", &expression)?;
+    say_room(rt, "31 bytes of room", &expression[0..8])
 }
 
 // Sums from the left: a variable at each odd record and at 0, an ADD at each even one.
 fn put_sums(expression: &mut [u8])
     requires { length expression.old ≤ 808 }
 {
-    let mut i = 2;
-    while i < expression.len() / term::WIDTH {
+    for i in (2..expression.len() / term::WIDTH).step_by(2) {
         put_term(expression, i, 16, (i - 2) as u8, (i - 1) as u8);
-        i += 2;
     }
 }
 
 fn put_counts(values: &mut [u8], inputs: &mut [u8])
     requires { (length values.old / value_width ≤ 100) × (length values.old / value_width ≤ length inputs.old / token_width) }
 {
-    let mut k = 0;
-    while k < values.len() / term::VALUE_WIDTH {
+    for k in 0..values.len() / term::VALUE_WIDTH {
         put_value(values, inputs, k, k as i32);
-        k += 1;
     }
 }
 
@@ -283,25 +254,25 @@ fn say_longest(rt: &impl Print) -> io::Result<()> {
     let mut inputs = [0u8; 50 * token::WIDTH];
     put_sums(&mut expression);
     put_counts(&mut values, &mut inputs);
-    say_expression(rt, b"sum of 50", false, &expression, &values, &inputs)
+    say_expression(rt, "sum of 50", false, &expression, &values, &inputs)
 }
 
 // An even number of records has one that is never named.
 fn say_even(rt: &impl Print) -> io::Result<()> {
     let mut expression = [0u8; 100 * term::WIDTH];
     put_sums(&mut expression);
-    say_expression(rt, b"100 records", false, &expression, b"", b"")
+    say_expression(rt, "100 records", false, &expression, b"", b"")
 }
 
 fn main(rt: HostRuntime) -> io::Result<()> {
     say_variable(&rt)?;
-    say_quotient(&rt, b"(x SUB y) DIV z", 7, 14, 2)?;
-    say_quotient(&rt, b"(x SUB y) DIV 0", 7, 14, 0)?;
-    say_pair(&rt, b"LT", 21, 0, 1, -3, 4)?;
-    say_pair(&rt, b"MUL past 32 bits", 18, 0, 1, 65536, 65536)?;
-    say_pair(&rt, b"kind 24", 24, 0, 1, 1, 1)?;
-    say_pair(&rt, b"a record names itself", 16, 0, 2, 1, 1)?;
-    say_pair(&rt, b"one named twice", 16, 1, 1, 1, 1)?;
+    say_quotient(&rt, "(x SUB y) DIV z", 7, 14, 2)?;
+    say_quotient(&rt, "(x SUB y) DIV 0", 7, 14, 0)?;
+    say_pair(&rt, "LT", 21, 0, 1, -3, 4)?;
+    say_pair(&rt, "MUL past 32 bits", 18, 0, 1, 65536, 65536)?;
+    say_pair(&rt, "kind 24", 24, 0, 1, 1, 1)?;
+    say_pair(&rt, "a record names itself", 16, 0, 2, 1, 1)?;
+    say_pair(&rt, "one named twice", 16, 1, 1, 1, 1)?;
     say_rooms(&rt)?;
     say_longest(&rt)?;
     say_even(&rt)

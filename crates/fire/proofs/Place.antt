@@ -1,6 +1,7 @@
 -- The token at the place of an enabled activity is its earliest operand, on a port that its instruction has; and what matching found are the operands
 -- of an activity. Assumes nothing.
-use Prim.Native.Nat.{ℕ, ◌<◌}
+use Rattle.std.proofs.Math.Nat.{min-eq_left}
+use Prim.Native.Nat.{ℕ, ◌<◌, min}
 use mathlib.Core.Path.{◌≡◌, refl, sym, ap, subst, ◌∙◌}
 use mathlib.Core.Bool.{Bool, true, false, cond}
 use mathlib.Core.List.{List, [], ◌∷◌}
@@ -19,13 +20,12 @@ use Rattle.record.specs.GraphRecords.{operands_of, graph_of}
 use Rattle.record.specs.TokensAndTags.{decode_token, tokens, token_at, stands_at}
 use Rattle.buffer.proofs.Tables.{length_rows, get_d_rows}
 use Rattle.record.specs.Widths.{token_width}
-use Rattle.store_chains.specs.declared.Found.{Found}
-use Rattle.store_chains.specs.declared.Found.TheVariants.{At, Nothing}
+use Rattle.std.specs.Prelude.{Option, Some, None}
 use Rattle.store_chains.specs.Search.{first_from}
 use Rattle.store_chains.proofs.Index.{and_left, and_right}
 use Rattle.store_enabled.specs.Enabled.{is_live_record, arity_of, is_enabled, earliest_of, leads_in}
-use Rattle.store_enabled.specs.Store.{lower, OperandPlaces}
-use Rattle.store_enabled.proofs.Places.{first_place, lower_first, lower_second}
+use Rattle.store_enabled.specs.Store.{OperandPlaces}
+use Rattle.store_enabled.proofs.Places.{first_place}
 use Rattle.store_enabled.proofs.Store.{all_at}
 use Rattle.rules.specs.Check.{instruction_at, operands_at}
 use Rattle.rules.specs.InstructionSet.{is_result, arity_in}
@@ -68,18 +68,18 @@ module _ {graph tables links flags ledger cells : List ℕ} {used : ℕ} (ready 
 -- ---- the operands that matching found
 
 -- where one operand is waited for, no token of the tag stands on port 1
-one_port : (g : List Instruction) (ts : List Token) → Arrived g ts → (τ : Tag) → arity_in g τ ≡ 1 → first_from (stands_at τ 1) 0 ts ≡ Nothing
+one_port : (g : List Instruction) (ts : List Token) → Arrived g ts → (τ : Tag) → arity_in g τ ≡ 1 → first_from (stands_at τ 1) 0 ts ≡ None
 one_port g ts a τ one = go (first_from (stands_at τ 1) 0 ts) refl
   where
-    go : (f : Found) → first_from (stands_at τ 1) 0 ts ≡ f → f ≡ Nothing
-    go (At k) e =
+    go : (f : Option ℕ) → first_from (stands_at τ 1) 0 ts ≡ f → f ≡ None
+    go (Some k) e =
         let s = search_at (stands_at τ 1) no_token k ts e in
         let u = get_or ts k no_token in
         let tag : u.tag ≡ τ = stands_tag τ 1 u s.passes in
         let arity : arity_in g u.tag ≡ 1 = rw tag one in
         let low = all_at (λ (t : Token). 0 < arity_in g t.tag → t.port < arity_in g t.tag) ts k no_token s.within (on_ports g ts a) (omega arith) in
         absurd (omega (arith, stands_port τ 1 u s.passes))
-    go Nothing e = refl
+    go None e = refl
 
 module _ (g : List Instruction) (ledger : List ℕ) (used : ℕ) (ports : All (λ (t : Token). t.port < 2) (tokens used ledger)) (arrived : Arrived g (tokens used ledger)) (τ : Tag) {i j : ℕ} {v w : ℤ}
     (p : Places (arity_in g τ) (tokens used ledger) τ i j v w) where
@@ -89,7 +89,7 @@ module _ (g : List Instruction) (ledger : List ℕ) (used : ℕ) (ports : All (�
   read : (k : ℕ) → k < length (tokens used ledger) → get_or (tokens used ledger) k no_token ≡ token_at ledger k
   read k h = get_d_rows token_width decode_token used k ledger no_token (omega (arith, size))
 
-  tag_at : (port k : ℕ) → k < length (tokens used ledger) → first_from (stands_at τ port) 0 (tokens used ledger) ≡ At k → (token_at ledger k).tag ≡ τ
+  tag_at : (port k : ℕ) → k < length (tokens used ledger) → first_from (stands_at τ port) 0 (tokens used ledger) ≡ Some k → (token_at ledger k).tag ≡ τ
   tag_at port k h e = ap (λ (t : Token). t.tag) (sym (read k h)) ∙ stands_tag τ port (get_or (tokens used ledger) k no_token) (search_at (stands_at τ port) no_token k (tokens used ledger) e).passes
 
   live_at_lem : (k : ℕ) {x : ℤ} → k < length (tokens used ledger) → (get_or (tokens used ledger) k no_token).content ≡ Live x → is_live_record (token_at ledger k).content ≡ true
@@ -102,9 +102,9 @@ module _ (g : List Instruction) (ledger : List ℕ) (used : ℕ) (ports : All (�
   second_tag = ⊎_elim (λ h. ap (λ (k : ℕ). (token_at ledger k).tag) h.1 ∙ first_tag) (λ h. tag_at 1 j p.second_within h.1) p.second_found
 
   -- the earlier of the two is the first token of the tag
-  pub place_here : earliest_of (tokens used ledger) τ ≡ lower i j
+  pub place_here : earliest_of (tokens used ledger) τ ≡ min i j
   place_here = first_place τ used ledger ports ∙ rw p.first_found (⊎_elim
-      (λ h. rw (one_port g (tokens used ledger) arrived τ h.0, h.1) (lower_first i used (omega (arith, size, p.first_within)) ∙ sym (lower_second i i (omega arith))))
+      (λ h. rw (one_port g (tokens used ledger) arrived τ h.0, h.1) (min-eq_left (omega (arith, size, p.first_within)) ∙ sym (min-eq_left (omega arith))))
       (λ h. rw h.1)
       p.second_found)
 

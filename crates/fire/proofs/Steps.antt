@@ -1,5 +1,6 @@
 -- A firing, from matching to output, in the terms of the machine: what the code leaves is what the machine's `commit` of the effect gives, and what holds
 -- between firings holds again. Assumes nothing.
+use Rattle.std.proofs.Common.{Ok}
 use Prim.Native.Nat.{ℕ, zero, suc, ◌+◌, ◌/◌, ◌≤◌, ◌<◌}
 use mathlib.Core.Path.{◌≡◌, refl, sym, ap, ◌∙◌, subst}
 use mathlib.Core.Bool.{Bool, true, false, cond}
@@ -10,6 +11,7 @@ use lib.ListN.{length, get_or, length-append, length-map, length-set}
 use lib.Dec.{eqb}
 use borrow.Author.Tests.{eqb-true}
 use lib.IntN.{ℤ}
+use Rattle.std.specs.Prelude.{Result, Ok, Err}
 use Rattle.record.specs.declared.array.NamedArray.{NamedArray}
 use Rattle.record.specs.declared.tag.Tag.{Tag}
 use Rattle.record.specs.declared.token.Token as Record
@@ -29,7 +31,6 @@ use Rattle.machine.specs.Machine.{Key, Machine, State, Effect, refuse, fired, no
 use Rattle.machine.specs.Orders.{Good, CellsBelow, ReadsForSome}
 use Rattle.rules.specs.declared.answer.Refusal.{Refusal}
 use Rattle.rules.specs.declared.answer.Refusal.TheVariants.{SecondWrite}
-use Rattle.rules.specs.declared.answer.Checked.TheVariants.{Passed}
 use Rattle.rules.specs.Check.{operands_at, check_graph}
 use Rattle.rules.specs.InstructionSet.{arity_in, machine_of, effect_in}
 use Rattle.rules.proofs.Lawful.{lawful}
@@ -49,8 +50,6 @@ use Rattle.fire_operands.specs.Operands.{Matched, Both, by_port, both_at, matche
 use Rattle.fire_operands.proofs.AsMachine.{values_of, Places, matched_places, held_operands}
 use Rattle.fire_outputs.specs.Outputs.{spend_one, spent_at, outputs_by, output_tokens, LowPortsBy, cells_in, OnCells, content_given, cells_by, woken_by, writes_again, Kept, CellsKept, Fireable}
 use Rattle.fire_outputs.proofs.Laws.{spent_by_port}
-use Rattle.fire_commit.specs.declared.Fired.{Fired}
-use Rattle.fire_commit.specs.declared.Fired.TheVariants as Fires
 use Rattle.fire_commit.specs.Admitted.{Verdict, Yes, No, admitted_of}
 use Rattle.fire_commit.specs.Commit.{Committed, done, refused, if_admitted, committed_of, CommittedTo, Fitting}
 use Rattle.fire_commit.proofs.AsMachine.{fired_of, commit_held}
@@ -179,7 +178,7 @@ pub record Done (g : List Instruction) (cells : ℕ) (x : Action) (o : Outputs) 
   pub cells_below : CellsBelow cells e
   pub reads_for_some : ReadsForSome e
 
-module _ (graph : List ℕ) (passed : check_graph graph ≡ Passed) {tables links flags ledger cells : List ℕ} {used : ℕ}
+module _ (graph : List ℕ) (passed : check_graph graph ≡ Ok tt) {tables links flags ledger cells : List ℕ} {used : ℕ}
     (now : Running (graph_of graph) tables links flags ledger cells used) (τ : Tag) (few : arity_in (graph_of graph) τ ≤ 2) where
   abbrev g : List Instruction
   g = graph_of graph
@@ -252,17 +251,17 @@ module _ (graph : List ℕ) (passed : check_graph graph ≡ Passed) {tables link
           same_cells = c;
         }
 
-        pub stepped : (r : Fired) → CommittedTo r (committed_of (length ledger / token_width) (tokens used ledger) (cells_in cells) i j x o) tables links' flags' ledger' cells' used ledger cells
+        pub stepped : (r : Result ℕ Refusal) → CommittedTo r (committed_of (length ledger / token_width) (tokens used ledger) (cells_in cells) i j x o) tables links' flags' ledger' cells' used ledger cells
             → Stepped r (graph_of graph) τ e tables links' flags' ledger' cells' used ledger cells
         stepped r h = go r (committed_of (length ledger / token_width) (tokens used ledger) (cells_in cells) i j x o) committed
             (grown (graph_of graph) (tokens used ledger) now.arrived i j (length ledger / token_width) (cells_in cells) x o does.arrives) h
           where
-            go : (q : Fired) (y : Committed) → commit M s τ e ≡ fired_of y → Grown (graph_of graph) (length (tokens used ledger)) y
+            go : (q : Result ℕ Refusal) (y : Committed) → commit M s τ e ≡ fired_of y → Grown (graph_of graph) (length (tokens used ledger)) y
                 → CommittedTo q y tables links' flags' ledger' cells' used ledger cells → Stepped q (graph_of graph) τ e tables links' flags' ledger' cells' used ledger cells
-            go (Fires.Done n) (done us ds) f a l = went n us ds f a l.0 l.1
-            go (Fires.Done n) (refused q) f a l = absurd l
-            go (Fires.Refused q) (done us ds) f a l = absurd l
-            go (Fires.Refused q) (refused p) f a l = stopped q (f ∙ ap not_fired (sym l.0)) l.1 l.2 l.3
+            go (Ok n) (done us ds) f a l = went n us ds f a l.0 l.1
+            go (Ok n) (refused q) f a l = absurd l
+            go (Err q) (done us ds) f a l = absurd l
+            go (Err q) (refused p) f a l = stopped q (f ∙ ap not_fired (sym l.0)) l.1 l.2 l.3
 
 -- ---- operands by ports
 
@@ -371,7 +370,7 @@ module _ (graph : List ℕ) {tables links flags ledger cells : List ℕ} {used :
 
     -- from matching to output
     pub stepped_here : (x : Action) (o : Outputs) → Effected (graph_of graph) (arrays_in tables) (length cells / cell_width) t.tag v w x o
-        → (links' flags' ledger' cells' : List ℕ) (r : Fired)
+        → (links' flags' ledger' cells' : List ℕ) (r : Result ℕ Refusal)
         → CommittedTo r (committed_of (length ledger / token_width) (tokens used ledger) (cells_in cells) place other x o) tables links' flags' ledger' cells' used ledger cells
         → Stepped r (graph_of graph) τ its tables links' flags' ledger' cells' used ledger cells
     stepped_here x o effected links' flags' ledger' cells' r left =

@@ -1,6 +1,6 @@
 -- Working definition: no public promise cites it.
 -- What holds between firings of the arrays, the ledger and the cells, and what a firing makes of them in the terms of the machine. Assumes nothing.
-use Rattle.std.specs.Prelude.{ℕ, ◌*◌, ◌/◌, ◌≤◌, ◌<◌, ◌≡◌, List, length, drop, ℤ}
+use Rattle.std.specs.Prelude.{ℕ, ◌*◌, ◌/◌, ◌≤◌, ◌<◌, ◌≡◌, List, length, drop, ℤ, Result, Ok, Err}
 use Rattle.record.specs.declared.tag.Tag.{Tag}
 use Rattle.record.specs.declared.token.Token as Record
 use Rattle.record.specs.declared.instruction.Instruction.{Instruction}
@@ -11,15 +11,12 @@ use Rattle.record.specs.Widths.{token_width, cell_width}
 use Rattle.machine.specs.Machine.{Machine, State, Effect, refuse, fired, not_fired, on_option, StateOf, EffectOf, look, operands, commit}
 use Rattle.machine.specs.Orders.{Good}
 use Rattle.rules.specs.declared.answer.Refusal.{Refusal}
-use Rattle.rules.specs.declared.answer.Checked.TheVariants.{Passed}
 use Rattle.rules.specs.Check.{operands_at, check_graph}
 use Rattle.rules.specs.InstructionSet.{machine_of}
 use Rattle.abstraction.specs.States.{state_held}
 use Rattle.abstraction.specs.Tables.{Arities, Returns, arrays_in}
 use Rattle.store.specs.Matching.{Matching}
 use Rattle.fire_outputs.specs.Outputs.{cells_in, CellStore}
-use Rattle.fire_commit.specs.declared.Fired.{Fired}
-use Rattle.fire_commit.specs.declared.Fired.TheVariants as Fires
 
 -- the machine of a graph and of the named arrays in the tables, over a ledger and cells, and its state there
 abbrev pub machine_over : List Instruction → (tables ledger cells : List ℕ) → Machine
@@ -65,14 +62,14 @@ pub record Stopped (r : Refusal) (g : List Instruction) (τ : Tag) (e : Effect R
   pub same_ledger : ledger' ≡ ledger
   pub same_cells : cells' ≡ cells
 
-abbrev pub Stepped : Fired → List Instruction → Tag → Effect Refusal Tag ℤ → (tables links flags ledger' cells' : List ℕ) → (used : ℕ) → (ledger cells : List ℕ) → Type 0
-Stepped (Fires.Done n) g τ e tables links flags ledger' cells' used ledger cells =
+abbrev pub Stepped : Result ℕ Refusal → List Instruction → Tag → Effect Refusal Tag ℤ → (tables links flags ledger' cells' : List ℕ) → (used : ℕ) → (ledger cells : List ℕ) → Type 0
+Stepped (Ok n) g τ e tables links flags ledger' cells' used ledger cells =
     Went g τ e tables links flags ledger' cells' n used ledger cells
-Stepped (Fires.Refused r) g τ e tables links flags ledger' cells' used ledger cells =
+Stepped (Err r) g τ e tables links flags ledger' cells' used ledger cells =
     Stopped r g τ e tables links flags ledger' cells' used ledger cells
 
 -- what a run has of its graph: it passed the check, and the tables made of it are right
 pub record Prepared (graph tables : List ℕ) : Type 0 where
-  pub passed : check_graph graph ≡ Passed
+  pub passed : check_graph graph ≡ Ok tt
   pub returns_right : Returns (graph_of graph) tables
   pub arities_right : Arities (graph_of graph) tables

@@ -20,17 +20,16 @@ ghost use Rattle.record.specs.TokensAndTags.{tokens, token_at};
 ghost use Rattle.store_enabled.specs.Enabled.{leads_in};
 ghost use Rattle.fire.specs.Running.{Prepared, Running, asked_in, Stepped};
 
-use fire_commit::Fired;
-use fire_effect::operate::Operated;
-use fire_effect::tags::NewTags;
 use fire_effect::{operate, tags};
 use fire_outputs::Places;
 use record::{cell, instruction, operation, token};
+use rules::answer::Refusal;
 use store_chains::Links;
 use store_enabled::Tables;
 use store_flags::Flags;
 
-// The enabled activity whose place this is fires, or is refused with ledger and cells as they were.
+// The enabled activity whose place this is fires, or is refused with ledger and cells as they were. Gives the
+// number of tokens in the ledger after it.
 pub fn fire(
     graph: &[u8],
     tables: &Tables,
@@ -40,7 +39,7 @@ pub fn fire(
     cells: &mut [u8],
     used: usize,
     place: usize,
-) -> Fired
+) -> Result<usize, Refusal>
     requires { Prepared graph.now tables.now
         × Running (graph_of graph.now) tables.now links.old flags.old ledger.old cells.old used
         × (place < used)
@@ -66,17 +65,9 @@ pub fn fire(
     let o = operation::decode(r.code);
     // Operation.
     let size = cells.len() / cell::WIDTH;
-    let operated = operate::operate(tables, o, r.constant, size, left, right);
-    let action = match operated {
-        Operated::Refuse(refusal) => return Fired::Refused(refusal),
-        Operated::Act(action) => action,
-    };
+    let action = operate::operate(tables, o, r.constant, size, left, right)?;
     // New tags.
-    let made = tags::new_tags(graph, tables, o, tag, r, right);
-    let outputs = match made {
-        NewTags::Refuse(refusal) => return Fired::Refused(refusal),
-        NewTags::To(outputs) => outputs,
-    };
+    let outputs = tags::new_tags(graph, tables, o, tag, r, right)?;
     // Output.
     fire_commit::commit(
         tables, links, flags, ledger, cells, used, operands, action, outputs,

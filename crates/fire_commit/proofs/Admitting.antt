@@ -20,9 +20,8 @@ use Rattle.rules.specs.declared.answer.Refusal.{Refusal}
 use Rattle.rules.specs.declared.answer.Refusal.TheVariants.{LedgerFull, SecondToken}
 use Rattle.rules.specs.InstructionSet.{machine_of}
 use Rattle.rules.specs.Run.{token_held}
-use Rattle.store_chains.specs.declared.Found.{Found}
-use Rattle.store_chains.specs.declared.Found.TheVariants.{At, Nothing}
-use Rattle.store_chains.specs.Search.{first_from, is_found}
+use Rattle.std.specs.Prelude.{Option, Some, None, is_some}
+use Rattle.store_chains.specs.Search.{first_from}
 use Rattle.abstraction.specs.States.{no_token, state_held}
 use Rattle.abstraction.proofs.Keys.{stands, not_stands, found_content, held_find}
 use Rattle.fire_effect.specs.declared.output.Key.{Key}
@@ -47,9 +46,9 @@ keys_count (suc zero) j k h = refl
 keys_count (suc (suc zero)) j k h = refl
 keys_count (suc (suc (suc n))) j k h = absurd (omega arith)
 
-found_there : (ts : List Record.Token) (f : Found) → is_there (found_content no_token ts f) ≡ is_found f
-found_there ts (At i) = refl
-found_there ts Nothing = refl
+found_there : (ts : List Record.Token) (f : Option ℕ) → is_there (found_content no_token ts f) ≡ is_some f
+found_there ts (Some i) = refl
+found_there ts None = refl
 
 or_one : (a : Bool) → (a || false || false) ≡ cond a true false
 or_one true = refl

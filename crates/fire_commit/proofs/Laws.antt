@@ -7,6 +7,8 @@ use native.Mathlib.Omega.{arith}
 use lib.Dec.{ltb}
 use lib.ListN.{length}
 use borrow.Author.Tests.{ltb-false}
+use Rattle.std.specs.Prelude.{Result, Ok, Err, IsErr}
+use Rattle.std.specs.Result.{IsErrAnd}
 use Rattle.record.specs.TokensAndTags.{tokens, decode_token}
 use Rattle.record.specs.declared.token.Token.{Token}
 use Rattle.record.specs.declared.cell.Cell.{Cell}
@@ -19,7 +21,6 @@ use Rattle.fire_effect.specs.declared.operate.Action.{Action}
 use Rattle.fire_outputs.specs.Outputs.{spent_at, output_tokens, content_given, cells_by, woken_by, writes_again, Kept, CellsKept, Fireable}
 use Rattle.fire_commit.specs.Admitted.{any_taken_of, Verdict, Yes, No, admitted_of}
 use Rattle.fire_commit.specs.Commit.{Committed, done, refused, if_admitted, committed_of, CommittedTo}
-use Rattle.fire_commit.specs.declared.Fired.TheVariants as Fires
 
 -- ---- the outputs of an admitted firing have room
 
@@ -59,10 +60,16 @@ module _ (capacity : ℕ) (ts : List Token) (cs : List Cell) (i j : ℕ) (a : Ac
 
 -- nothing was written
 pub left_refused : {tables links flags ledger cells : List ℕ} {used i j : ℕ} → Fireable tables links flags ledger cells used i j
-    → {x : Committed} {r : Refusal} → x ≡ refused r → CommittedTo (Fires.Refused r) x tables links flags ledger cells used ledger cells
+    → {x : Committed} {r : Refusal} → x ≡ refused r → CommittedTo (Err r) x tables links flags ledger cells used ledger cells
 left_refused l e = rw e (refl, refl, refl, l.matching)
 
 pub left_done : {tables links flags ledger' cells' : List ℕ} (used : ℕ) {n m : ℕ} {ts : List Token} {cs : List Cell} {ledger cells : List ℕ} {x : Committed}
     → x ≡ done ts cs → n ≡ m → Kept tables links flags ledger' m ts ledger → CellsKept cells' cs cells
-    → CommittedTo (Fires.Done n) x tables links flags ledger' cells' used ledger cells
+    → CommittedTo (Ok n) x tables links flags ledger' cells' used ledger cells
 left_done used e p k c = rw (e, p) (k, c)
+
+-- ---- what `?` hands on
+
+pub passed_on : {T E : Type 0} (r : Result T E) (e : E) → IsErr r × IsErrAnd r (λ x. x ≡ e) → r ≡ Err e
+passed_on (Ok x) e h = absurd h.1
+passed_on (Err x) e h = ap Err h.1

@@ -10,7 +10,7 @@ use Rattle.record.specs.TokensAndTags.{same_tag, stands_at}
 use Rattle.record.specs.declared.token.Token.{Token}
 use Rattle.record.specs.declared.token.Content.{Content}
 use Rattle.store_chains.specs.declared.Slot.{Slot}
-use Rattle.store_chains.specs.declared.Found.TheVariants.{At}
+use Rattle.std.specs.Prelude.{Some}
 use Rattle.store_chains.specs.Search.{Free}
 use Rattle.store_chains.specs.Slots.{Open}
 use Rattle.store_chains.proofs.Search.{first_added, first_past, first_none_added}
@@ -33,7 +33,7 @@ module _ (j k : Key) (s : Slot) (ts : List Token) (x : Content) (low : (j.port <
   }
 
   -- of one tag: the first is the partner
-  pub open_beside : same_tag j.tag k.tag ≡ true → Open (ts ++ out ∷ []) k.tag k.port (record { bucket = s.bucket; partner = At (length ts) })
+  pub open_beside : same_tag j.tag k.tag ≡ true → Open (ts ++ out ∷ []) k.tag k.port (record { bucket = s.bucket; partner = Some (length ts) })
   unfolding same_keys
   open_beside e =
       let ports : j.port ≡ k.port → ⊥ = λ q. different q in

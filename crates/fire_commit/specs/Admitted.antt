@@ -1,22 +1,20 @@
 -- Working definition: no public promise cites it.
 -- Whether a firing's outputs can go into the ledger, as searches of its tokens. proofs/ joins this with the machine's definitions. Assumes nothing.
-use Rattle.std.specs.Prelude.{ℕ, ◌+◌, ◌<◌, ◌≡◌, Bool, true, false, ◌&&◌, cond, List, [], ◌∷◌, ◌++◌, length, eqb, ltb}
+use Rattle.std.specs.Prelude.{ℕ, ◌+◌, ◌<◌, ◌≡◌, Bool, true, false, ◌&&◌, cond, List, [], ◌∷◌, ◌++◌, length, eqb, ltb, Result, Ok, Err, is_some}
 use Rattle.record.specs.declared.token.Token.{Token}
 use Rattle.record.specs.declared.token.Content.{Content}
 use Rattle.record.specs.TokensAndTags.{same_tag, stands_at}
 use Rattle.store_chains.specs.declared.Slot.{Slot}
-use Rattle.store_chains.specs.Search.{first_from, is_found, Free}
+use Rattle.store_chains.specs.Search.{first_from, Free}
 use Rattle.store_chains.specs.Slots.{Open}
 use Rattle.fire_effect.specs.declared.output.Key.{Key}
 use Rattle.fire_effect.specs.declared.output.Outputs.{Outputs}
 use Rattle.rules.specs.declared.answer.Refusal.{Refusal}
 use Rattle.rules.specs.declared.answer.Refusal.TheVariants.{LedgerFull, SecondToken}
 use Rattle.fire_outputs.specs.Outputs.{token_out, OpenKeys}
-use Rattle.fire_commit.specs.declared.admit.Admitted.{Admitted}
-use Rattle.fire_commit.specs.declared.admit.Admitted.TheVariants as Admits
 
 unfoldable pub is_taken : List Token → Key → Bool
-is_taken ts k = is_found (first_from (stands_at k.tag k.port) 0 ts)
+is_taken ts k = is_some (first_from (stands_at k.tag k.port) 0 ts)
 
 unfoldable pub same_keys : Key → Key → Bool
 same_keys a b = eqb a.port b.port && same_tag a.tag b.tag
@@ -44,6 +42,6 @@ admitted_of capacity ts o =
     (cond (any_taken_of ts o) (No SecondToken) Yes)
 
 -- the code's answer is the verdict, with the slots where the outputs may arrive
-abbrev pub AdmittedAs : Admitted → Verdict → List Token → Outputs → Type 0
-AdmittedAs (Admits.Yes s t) v ts o = (v ≡ Yes) × OpenKeys ts o s t
-AdmittedAs (Admits.No r) v ts o = v ≡ No r
+abbrev pub AdmittedAs : Result (Slot × Slot) Refusal → Verdict → List Token → Outputs → Type 0
+AdmittedAs (Ok slots) v ts o = (v ≡ Yes) × OpenKeys ts o slots.0 slots.1
+AdmittedAs (Err r) v ts o = v ≡ No r

@@ -9,7 +9,6 @@ ghost use Rattle.record.specs.Widths.{token_width, cell_width};
 ghost use Rattle.fire_outputs.specs.Outputs.{cells_in, Fireable};
 ghost use Rattle.fire_commit.specs.Commit.{committed_of, CommittedTo, Fitting};
 
-use crate::admit::Admitted;
 use fire_effect::operate::Action;
 use fire_effect::output::Outputs;
 use fire_outputs::Places;
@@ -18,15 +17,8 @@ use store_chains::Links;
 use store_enabled::Tables;
 use store_flags::Flags;
 
-// What comes of a firing: the number of tokens in the ledger after it, or its refusal.
-#[derive(Clone, Copy)]
-pub enum Fired {
-    Done(usize),
-    Refused(Refusal),
-}
-
-// An action on ledger and cells, and its outputs. What refuses them is asked before anything is written:
-// 11, then 8 and 9. A refusal leaves both as they were.
+// An action on ledger and cells, and its outputs: gives the number of tokens in the ledger after it. What
+// refuses them is asked before anything is written: 11, then 8 and 9. A refusal leaves both as they were.
 pub fn commit(
     tables: &Tables,
     links: &mut Links,
@@ -37,7 +29,7 @@ pub fn commit(
     operands: Places,
     action: Action,
     sent: Outputs,
-) -> Fired
+) -> Result<usize, Refusal>
     requires { Fireable tables.now links.old flags.old ledger.old cells.old used operands.place operands.other × Fitting (length cells.old / cell_width) action sent }
     ensures { CommittedTo result
         (committed_of (length ledger.old / token_width) (tokens used ledger.old) (cells_in cells.old) operands.place
@@ -45,13 +37,10 @@ pub fn commit(
         ledger.old cells.old }
 {
     if fire_outputs::writes_again(cells, action) {
-        return Fired::Refused(Refusal::SecondWrite);
+        return Err(Refusal::SecondWrite);
     }
-    let admitted = admit::admit(links, ledger, used, sent);
-    match admitted {
-        Admitted::No(r) => Fired::Refused(r),
-        Admitted::Yes(first, second) => Fired::Done(fire_outputs::carry_out(
-            tables, links, flags, ledger, cells, used, operands, action, sent, first, second,
-        )),
-    }
+    let (first, second) = admit::admit(links, ledger, used, sent)?;
+    Ok(fire_outputs::carry_out(
+        tables, links, flags, ledger, cells, used, operands, action, sent, first, second,
+    ))
 }

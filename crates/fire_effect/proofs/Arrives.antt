@@ -1,5 +1,6 @@
 -- What holds of every effect in a graph that passed its check: each key that it sends to is a port that a token can come to, and a cell that it names is
 -- below the count. Assumes nothing.
+use Rattle.std.proofs.Common.{Ok}
 use Prim.Native.Nat.{ℕ, suc, ◌+◌, ◌≤◌, ◌<◌}
 use mathlib.Core.Path.{◌≡◌, refl}
 use mathlib.Core.Bool.{Bool, true, false, cond}
@@ -10,14 +11,10 @@ use borrow.Author.Tests.{ltb-true, leb-true}
 use lib.ListN.{length, get_or-eq_default}
 use lib.Dec.{ltb}
 use lib.IntN.{ℤ, pos, negsuc, nat_abs}
+use Rattle.std.specs.Prelude.{Option, None, Some}
 use Rattle.record.specs.declared.array.NamedArray.{NamedArray}
 use Rattle.record.specs.declared.tag.Tag.{Tag}
-use Rattle.record.specs.declared.tag.Entered.{Entered}
-use Rattle.record.specs.declared.tag.Entered.TheVariants.{In, TooDeep}
-use Rattle.record.specs.declared.tag.Left.{Left}
-use Rattle.record.specs.declared.tag.Left.TheVariants.{To, NoCaller}
-use Rattle.record.specs.declared.tag.Next as Later
-use Rattle.record.specs.declared.tag.Next.TheVariants.{Is, Last}
+use Rattle.record.specs.declared.tag.Caller.{Caller}
 use Rattle.record.specs.declared.instruction.Destination.{Destination}
 use Rattle.record.specs.declared.instruction.Instruction.{Instruction}
 use Rattle.record.specs.declared.operation.Operation.{Operation}
@@ -27,13 +24,10 @@ use Rattle.record.specs.GraphRecords.{row_of, operation_of, graph_of, destinatio
 use Rattle.record.specs.GraphRecords as Graph
 use Rattle.record.specs.TokensAndTags.{to_of}
 use Rattle.record.specs.Calls.{next_of, enter_of, leave_of}
-use Rattle.arithmetic.specs.declared.Computed.{Computed}
-use Rattle.arithmetic.specs.declared.Computed.TheVariants.{Value, OutOfRange}
 use Rattle.arithmetic.specs.Arithmetic.{compute_of, eq_z}
 use Rattle.machine.specs.Machine.{Key, refuse, send}
 use Rattle.machine.specs.Orders.{CellsBelow}
 use Rattle.rules.specs.declared.answer.Refusal.TheVariants as Refusals
-use Rattle.rules.specs.declared.answer.Checked.TheVariants.{Passed}
 use Rattle.rules.specs.Check.{all, good_arc, instruction_at, operands_at, check_graph}
 use Rattle.rules.specs.InstructionSet.{EffectHere, key_under, all_under, side_of, send_computed, send_next, send_entered, send_returned, send_left, return_of, on_cell, cell_number, effect_of, effect_in}
 use Rattle.fire_effect.specs.Effects.{Arrives, AllSent}
@@ -83,10 +77,10 @@ module _ (g : List Instruction) (table : List NamedArray) (cells : ℕ) where
 
   -- ---- operations
 
-  computed_fine : (c : Computed) (keys : List (Key Tag)) → All (Arrives g) keys → Fine (send_computed c keys)
+  computed_fine : (c : Option ℤ) (keys : List (Key Tag)) → All (Arrives g) keys → Fine (send_computed c keys)
   unfolding send_computed
-  computed_fine (Value v) keys h = (tt, h)
-  computed_fine OutOfRange keys h = (tt, tt)
+  computed_fine (Some v) keys h = (tt, h)
+  computed_fine None keys h = (tt, tt)
 
   cell_fine : (a : ℤ) (f : ℕ → EffectHere) → ((c : ℕ) → c < cells → Fine (f c)) → Fine (on_cell cells a f)
   unfolding on_cell
@@ -105,15 +99,15 @@ module _ (g : List Instruction) (table : List NamedArray) (cells : ℕ) where
       go true = h.1
       go false = h.0
 
-  next_fine : (n : Later.Next) (r : Instruction) (v : ℤ) → ((τ : Tag) → All (Arrives g) (all_under τ r)) → Fine (send_next n r v)
+  next_fine : (n : Option Tag) (r : Instruction) (v : ℤ) → ((τ : Tag) → All (Arrives g) (all_under τ r)) → Fine (send_next n r v)
   unfolding send_next
-  next_fine (Is τ) r v h = (tt, h τ)
-  next_fine Last r v h = (tt, tt)
+  next_fine (Some τ) r v h = (tt, h τ)
+  next_fine None r v h = (tt, tt)
 
-  entered_fine : (n : Entered) (r : Instruction) (v : ℤ) → ((τ : Tag) → Arrives g (key_under τ r.first)) → Fine (send_entered n r v)
+  entered_fine : (n : Option Tag) (r : Instruction) (v : ℤ) → ((τ : Tag) → Arrives g (key_under τ r.first)) → Fine (send_entered n r v)
   unfolding send_entered
-  entered_fine (In τ) r v h = (tt, (h τ, tt))
-  entered_fine TooDeep r v h = (tt, tt)
+  entered_fine (Some τ) r v h = (tt, (h τ, tt))
+  entered_fine None r v h = (tt, tt)
 
   returned_fine : ((i : ℕ) → i < length g → 0 < operands_at g i) → (i k : ℕ) (τ : Tag) (v : ℤ) → Fine (send_returned g i k τ v)
   unfolding send_returned
@@ -123,10 +117,10 @@ module _ (g : List Instruction) (table : List NamedArray) (cells : ℕ) where
       go true e = (tt, (h (i + k) (ltb-true _ _ e), tt))
       go false e = (tt, tt)
 
-  left_fine : ((i : ℕ) → i < length g → 0 < operands_at g i) → (n : Left) (r : Instruction) (v : ℤ) → Fine (send_left g n r v)
+  left_fine : ((i : ℕ) → i < length g → 0 < operands_at g i) → (n : Option Caller) (r : Instruction) (v : ℤ) → Fine (send_left g n r v)
   unfolding send_left
-  left_fine h (To site τ) r v = returned_fine h (return_of site g) (nat_abs r.constant) τ v
-  left_fine h NoCaller r v = (tt, tt)
+  left_fine h (Some c) r v = returned_fine h (return_of c.site g) (nat_abs r.constant) c.tag v
+  left_fine h None r v = (tt, tt)
 
   operation_fine : ((i : ℕ) → i < length g → 0 < operands_at g i) → (τ : Tag) (r : Instruction) {i : ℕ} → Good g i r
       → (o : Operation) → operation_of r.code ≡ o → (a b : ℤ) → Fine (effect_of o g table cells τ r a b (all_under τ r))
@@ -148,7 +142,7 @@ module _ (g : List Instruction) (table : List NamedArray) (cells : ℕ) where
 
 -- ---- in a graph that passed
 
-module _ (graph : List ℕ) (passed : check_graph graph ≡ Passed) (table : List NamedArray) (cells : ℕ) (τ : Tag) (a b : ℤ) where
+module _ (graph : List ℕ) (passed : check_graph graph ≡ Ok tt) (table : List NamedArray) (cells : ℕ) (τ : Tag) (a b : ℤ) where
   known : (i : ℕ) → i < length (graph_of graph) → 0 < operands_at (graph_of graph) i
   unfolding operands_at
   known i h = leb-true 1 _ (of_graph graph passed i h).known

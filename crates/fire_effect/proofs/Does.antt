@@ -12,6 +12,7 @@ use lib.IntN.{ℤ, pos, negsuc, nat_abs}
 use lib.Signed.{lt_z, non_neg}
 use mir.Syntax.{w8, w32}
 use mir.Val.{Fits, SFits}
+use Rattle.std.specs.Prelude.{None, Some, Result, Ok, Err}
 use Rattle.record.specs.declared.array.NamedArray.{NamedArray}
 use Rattle.record.specs.declared.tag.Tag.{Tag}
 use Rattle.record.specs.declared.instruction.Destination.{Destination}
@@ -29,9 +30,6 @@ use Rattle.rules.proofs.Below.{listed, unlisted}
 use Rattle.abstraction.specs.Tables.{array_from, arrays_in}
 use Rattle.fire_effect.specs.declared.output.Key.{Key}
 use Rattle.fire_effect.specs.declared.output.Outputs.{Outputs}
-use Rattle.fire_effect.specs.declared.tags.NewTags.{NewTags}
-use Rattle.fire_effect.specs.declared.tags.NewTags.TheVariants as Tags
-use Rattle.fire_effect.specs.declared.operate.Named.TheVariants.{Cell, NoSuchCell}
 use Rattle.fire_effect.specs.Effects.{key_held, keys_held, output_keys, Sends, Makes, named_of}
 
 abbrev pub Clash : Type 0
@@ -69,14 +67,14 @@ sends_key e s = rw (← e) s
 
 -- ---- new tags
 
-pub made : {o : Outputs} {keys : List (Machine.Key Tag)} → Sends o keys → Makes (Tags.To o) (λ v. send v keys)
+pub made : {o : Outputs} {keys : List (Machine.Key Tag)} → Sends o keys → Makes (Ok o) (λ v. send v keys)
 made s = record { held = λ v. ap (send v) s.held; counted = s.counted }
 
-pub refused : (r : Refusal) → Makes (Tags.Refuse r) (λ v. refuse r)
+pub refused : (r : Refusal) → Makes (Err r) (λ v. refuse r)
 refused r = record { held = λ v. refl; counted = tt }
 
 -- the same, otherwise named
-pub made_as : {m : NewTags} {f h : ℤ → EffectHere} → ((v : ℤ) → f v ≡ h v) → Makes m h → Makes m f
+pub made_as : {m : Result Outputs Refusal} {f h : ℤ → EffectHere} → ((v : ℤ) → f v ≡ h v) → Makes m h → Makes m f
 made_as e d = record { held = λ v. d.held v ∙ sym (e v); counted = d.counted }
 
 -- ---- a constant of at most a byte
@@ -92,14 +90,14 @@ byte_fits (negsuc n) e = clash cc
 
 -- ---- the cell that an operand names
 
-pub below_cells : (cells : ℕ) {a : ℤ} {n : ℕ} → a ≡ negsuc n → NoSuchCell ≡ named_of cells a
+pub below_cells : (cells : ℕ) {a : ℤ} {n : ℕ} → a ≡ negsuc n → None ≡ named_of cells a
 below_cells cells e = rw e
 
 module _ (cells : ℕ) {a : ℤ} {n : ℕ} (e : a ≡ pos n) where
-  pub in_cells : n < cells → Cell n ≡ named_of cells a
+  pub in_cells : n < cells → Some n ≡ named_of cells a
   in_cells h = rw (e, lt-ltb n cells h)
 
-  pub past_cells : cells ≤ n → NoSuchCell ≡ named_of cells a
+  pub past_cells : cells ≤ n → None ≡ named_of cells a
   past_cells h = rw (e, le-ltb n cells h)
 
 -- ---- the cell that an index names in an array

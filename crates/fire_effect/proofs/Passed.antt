@@ -1,4 +1,5 @@
 -- What an instruction of a graph that passed its check has for its operation, as the code reads it. Assumes nothing.
+use Rattle.std.proofs.Common.{Ok}
 use Prim.Native.Nat.{ℕ, ◌/◌, ◌≤◌, ◌<◌}
 use mathlib.Core.Path.{◌≡◌}
 use mathlib.Core.List.{List, [], ◌∷◌}
@@ -12,7 +13,6 @@ use Rattle.record.specs.GraphRecords.{row_of, operation_of, graph_of, instructio
 use Rattle.record.specs.GraphRecords as Graph
 use Rattle.buffer.proofs.Tables.{get_d_rows}
 use Rattle.record.specs.Widths.{graph_width}
-use Rattle.rules.specs.declared.answer.Checked.TheVariants.{Passed}
 use Rattle.rules.specs.Check.{instruction_at, check_graph}
 use Rattle.rules.proofs.Passed.{both}
 use Rattle.rules.proofs.PassedGraph.{Good, of_graph, at_most, said_of, least_fan_out_lem, enter_site, leave_site}
@@ -37,7 +37,7 @@ module _ (graph : List ℕ) (i : ℕ) (inside : i < length graph / graph_width) 
   unfolding instruction_at
   in_bytes = get_d_rows graph_width Graph.decode_instruction (length graph / graph_width) i graph (Graph.decode_instruction []) inside
 
-  pub ready : (tables : List ℕ) → check_graph graph ≡ Passed → Returns (graph_of graph) tables → ReadyForTags graph tables (operation_of (instruction_in graph i).code) (instruction_in graph i)
+  pub ready : (tables : List ℕ) → check_graph graph ≡ Ok tt → Returns (graph_of graph) tables → ReadyForTags graph tables (operation_of (instruction_in graph i).code) (instruction_in graph i)
   ready tables passed right =
       let good : Good (graph_of graph) i (instruction_in graph i) = rw in_bytes at (of_graph graph passed i (rw (records graph) inside)) in
       record { records = at_most graph passed; returns = right; of_enter = enter_site good; of_leave = leave_site good }

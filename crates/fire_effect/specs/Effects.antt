@@ -1,14 +1,12 @@
 -- Working definition: no public promise cites it.
 -- What the values of this crate say in the terms of the machine: keys, outputs and actions; an effect of the rules in the order of Memo 205-1, the
 -- operation and then the new tags; and what the functions are lent. Assumes nothing.
-use Rattle.std.specs.Prelude.{ℕ, zero, suc, ◌/◌, ◌<◌, ◌≤◌, ◌≡◌, true, cond, List, [], ◌∷◌, length, ℤ, pos, negsuc, nat_abs, ltb}
+use Rattle.std.specs.Prelude.{ℕ, zero, suc, ◌/◌, ◌<◌, ◌≤◌, ◌≡◌, true, cond, List, [], ◌∷◌, length, ℤ, pos, negsuc, nat_abs, ltb, Option, None, Some, Result, Ok, Err}
 use Rattle.record.specs.declared.array.NamedArray.{NamedArray}
 use Rattle.record.specs.declared.tag.Tag.{Tag}
 use Rattle.record.specs.declared.instruction.Instruction.{Instruction}
 use Rattle.record.specs.declared.operation.Operation.{Operation}
 use Rattle.record.specs.declared.operation.Operation.TheVariants as Operations
-use Rattle.arithmetic.specs.declared.Computed.{Computed}
-use Rattle.arithmetic.specs.declared.Computed.TheVariants.{Value, OutOfRange}
 use Rattle.arithmetic.specs.Arithmetic.{compute_of}
 use Rattle.buffer.specs.Rows.{All}
 use Rattle.record.specs.GraphRecords.{graph_of}
@@ -21,16 +19,11 @@ use Rattle.rules.specs.declared.answer.Refusal.TheVariants as Refusals
 use Rattle.rules.specs.Check.{within, operands_at}
 use Rattle.rules.specs.InstructionSet.{EffectHere, key_under, all_under, side_of, send_next, send_entered, send_left, cell_number, effect_in}
 use Rattle.abstraction.specs.Tables.{Returns}
+use Rattle.rules.specs.declared.answer.Refusal.{Refusal}
 use Rattle.fire_effect.specs.declared.output.Key.{Key}
 use Rattle.fire_effect.specs.declared.output.Outputs.{Outputs}
 use Rattle.fire_effect.specs.declared.operate.Action.{Action}
 use Rattle.fire_effect.specs.declared.operate.Action.TheVariants.{Send, Read, Write}
-use Rattle.fire_effect.specs.declared.operate.Operated.{Operated}
-use Rattle.fire_effect.specs.declared.operate.Operated.TheVariants.{Refuse, Act}
-use Rattle.fire_effect.specs.declared.operate.Named.{Named}
-use Rattle.fire_effect.specs.declared.operate.Named.TheVariants.{Cell, NoSuchCell}
-use Rattle.fire_effect.specs.declared.tags.NewTags.{NewTags}
-use Rattle.fire_effect.specs.declared.tags.NewTags.TheVariants as Tags
 
 -- ---- keys, outputs, actions
 
@@ -59,50 +52,50 @@ pub record Sends (o : Outputs) (keys : List (Machine.Key Tag)) : Type 0 where
 -- ---- operation
 
 -- the cell that an operand names, if there is one
-abbrev pub named_of : (cells : ℕ) → ℤ → Named
-named_of cells (pos c) = cond (ltb c cells) (Cell c) NoSuchCell
-named_of cells (negsuc c) = NoSuchCell
+abbrev pub named_of : (cells : ℕ) → ℤ → Option ℕ
+named_of cells (pos c) = cond (ltb c cells) (Some c) None
+named_of cells (negsuc c) = None
 
 -- 10: "cell number outside 0 to count minus 1"
-abbrev pub on_named : Named → (ℕ → Action) → Operated
-on_named (Cell c) request = Act (request c)
-on_named NoSuchCell request = Refuse Refusals.NoSuchCell
+abbrev pub on_named : Option ℕ → (ℕ → Action) → Result Action Refusal
+on_named (Some c) request = Ok (request c)
+on_named None request = Err Refusals.NoSuchCell
 
 -- 12: "result past 32 signed bits, or divisor 0"
-abbrev pub on_computed : Computed → Operated
-on_computed (Value v) = Act (Send v)
-on_computed OutOfRange = Refuse Refusals.OutOfRange
+abbrev pub on_computed : Option ℤ → Result Action Refusal
+on_computed (Some v) = Ok (Send v)
+on_computed None = Err Refusals.OutOfRange
 
 -- a value, a request to a cell, or a refusal: k is the constant, a and b are the operands on ports 0 and 1
-unfoldable pub operated_of : Operation → List NamedArray → (k : ℤ) → (cells : ℕ) → (a b : ℤ) → Operated
-operated_of Operations.Copy table k cells a b = Act (Send a)
-operated_of Operations.Sink table k cells a b = Act (Send a)
-operated_of Operations.Out table k cells a b = Act (Send a)
-operated_of Operations.Const table k cells a b = Act (Send k)
-operated_of Operations.Switch table k cells a b = Act (Send a)
-operated_of Operations.Gate table k cells a b = Act (Send a)
-operated_of Operations.Next table k cells a b = Act (Send a)
-operated_of Operations.Enter table k cells a b = Act (Send a)
-operated_of Operations.Leave table k cells a b = Act (Send a)
+unfoldable pub operated_of : Operation → List NamedArray → (k : ℤ) → (cells : ℕ) → (a b : ℤ) → Result Action Refusal
+operated_of Operations.Copy table k cells a b = Ok (Send a)
+operated_of Operations.Sink table k cells a b = Ok (Send a)
+operated_of Operations.Out table k cells a b = Ok (Send a)
+operated_of Operations.Const table k cells a b = Ok (Send k)
+operated_of Operations.Switch table k cells a b = Ok (Send a)
+operated_of Operations.Gate table k cells a b = Ok (Send a)
+operated_of Operations.Next table k cells a b = Ok (Send a)
+operated_of Operations.Enter table k cells a b = Ok (Send a)
+operated_of Operations.Leave table k cells a b = Ok (Send a)
 operated_of Operations.Fetch table k cells a b = on_named (named_of cells (cell_number table k a)) (λ c. Read c)
 operated_of Operations.Store table k cells a b = on_named (named_of cells (cell_number table k a)) (λ c. Write c b)
 operated_of (Operations.OnTwo o) table k cells a b = on_computed (compute_of o a b)
 operated_of (Operations.OnConstant o) table k cells a b = on_computed (compute_of o a k)
-operated_of Operations.Unknown table k cells a b = Act (Send a)
+operated_of Operations.Unknown table k cells a b = Ok (Send a)
 
 -- ---- new tags
 
 -- a value sent under the new tags, or their refusal
-abbrev pub sent_under : NewTags → ℤ → EffectHere
-sent_under (Tags.Refuse r) v = refuse r
-sent_under (Tags.To o) v = send v (output_keys o)
+abbrev pub sent_under : Result Outputs Refusal → ℤ → EffectHere
+sent_under (Err r) v = refuse r
+sent_under (Ok o) v = send v (output_keys o)
 
-abbrev pub FewTags : NewTags → Type 0
-FewTags (Tags.Refuse r) = Unit {0}
-FewTags (Tags.To o) = o.count ≤ 2
+abbrev pub FewTags : Result Outputs Refusal → Type 0
+FewTags (Err r) = Unit {0}
+FewTags (Ok o) = o.count ≤ 2
 
 -- whatever value is sent under them, it is sent as by f
-pub record Makes (m : NewTags) (f : ℤ → EffectHere) : Type 0 where
+pub record Makes (m : Result Outputs Refusal) (f : ℤ → EffectHere) : Type 0 where
   pub held : (v : ℤ) → sent_under m v ≡ f v
   pub counted : FewTags m
 
@@ -132,11 +125,11 @@ in_place request (send v keys) = request keys
 in_place request (read c keys) = read c keys
 in_place request (write c v keys) = write c v keys
 
-abbrev pub then_tags : Operated → (ℤ → EffectHere) → EffectHere
-then_tags (Refuse r) f = refuse r
-then_tags (Act (Send v)) f = f v
-then_tags (Act (Read c)) f = in_place (read c) (f (pos 0))
-then_tags (Act (Write c v)) f = in_place (write c v) (f (pos 0))
+abbrev pub then_tags : Result Action Refusal → (ℤ → EffectHere) → EffectHere
+then_tags (Err r) f = refuse r
+then_tags (Ok (Send v)) f = f v
+then_tags (Ok (Read c)) f = in_place (read c) (f (pos 0))
+then_tags (Ok (Write c v)) f = in_place (write c v) (f (pos 0))
 
 -- ---- what holds of an action and its outputs
 

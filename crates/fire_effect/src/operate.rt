@@ -4,7 +4,6 @@ ghost use Rattle.rules.specs.InstructionSet.{number_in, array_at, cell_number};
 ghost use Rattle.abstraction.specs.Tables.{arrays_in};
 ghost use Rattle.fire_effect.specs.Effects.{named_of, on_named, on_computed, operated_of};
 
-use arithmetic::Computed;
 use record::array::NamedArray;
 use record::operation::Operation;
 use rules::answer::Refusal;
@@ -20,62 +19,39 @@ pub enum Action {
     Write(u32, i32),
 }
 
-#[derive(Clone, Copy)]
-pub enum Operated {
-    Refuse(Refusal),
-    Act(Action),
-}
-
-// What an operand names, where a cell is asked for.
-#[derive(Clone, Copy)]
-enum Named {
-    Cell(u32),
-    NoSuchCell,
-}
-
 // 12: "result past 32 signed bits, or divisor 0".
-fn computed(c: Computed) -> Operated
+fn computed(c: Option<i32>) -> Result<Action, Refusal>
     ensures { result ≡ on_computed c }
 {
-    let Computed::Value(v) = c else {
-        return Operated::Refuse(Refusal::OutOfRange);
-    };
-    Operated::Act(Action::Send(v))
+    let v = c.ok_or(Refusal::OutOfRange)?;
+    Ok(Action::Send(v))
 }
 
-// The cell that an operand names. 10: "cell number outside 0 to count minus 1".
-fn cell_of(a: i32, cells: usize) -> Named
+// The cell that an operand names, if there is one. 10: "cell number outside 0 to count minus 1".
+fn cell_of(a: i32, cells: usize) -> Option<u32>
     ensures { result ≡ named_of cells a }
 {
     if a < 0 {
-        return Named::NoSuchCell;
+        return None;
     }
     let c = a as u32;
-    if (c as usize) < cells {
-        Named::Cell(c)
-    } else {
-        Named::NoSuchCell
-    }
+    if (c as usize) < cells { Some(c) } else { None }
 }
 
 // The cell that an index names in an array. 02, R-10: "index 1 is its first cell, and an index below 1 or
 // past the length is refused by 10".
-fn cell_in(first: u16, length: u16, index: i32, cells: usize) -> Named
+fn cell_in(first: u16, length: u16, index: i32, cells: usize) -> Option<u32>
     ensures { result ≡ named_of cells (number_in (record { first = first; length = length }) index) }
 {
     if index < 1 {
-        return Named::NoSuchCell;
+        return None;
     }
     let i = index as usize;
     if (length as usize) < i {
-        return Named::NoSuchCell;
+        return None;
     }
     let c = (first as usize) + i - 1;
-    if c < cells {
-        Named::Cell(c as u32)
-    } else {
-        Named::NoSuchCell
-    }
+    if c < cells { Some(c as u32) } else { None }
 }
 
 // Entry i of the tables of a run.
@@ -105,11 +81,11 @@ fn array_of(tables: &[u16], n: usize) -> NamedArray
 
 // The cell that an operand names by a constant k: in the whole store if k is 0, else in array k, counted
 // from 1.
-fn cell_by(tables: &[u16], k: i32, a: i32, cells: usize) -> Named
+fn cell_by(tables: &[u16], k: i32, a: i32, cells: usize) -> Option<u32>
     ensures { result ≡ named_of cells (cell_number (arrays_in tables.now) k a) }
 {
     if k < 0 {
-        return Named::NoSuchCell;
+        return None;
     }
     if k < 1 {
         return cell_of(a, cells);
@@ -118,35 +94,38 @@ fn cell_by(tables: &[u16], k: i32, a: i32, cells: usize) -> Named
     cell_in(array.first, array.length, a, cells)
 }
 
-fn fetch(tables: &[u16], k: i32, a: i32, cells: usize) -> Operated
+fn fetch(tables: &[u16], k: i32, a: i32, cells: usize) -> Result<Action, Refusal>
     ensures { result ≡ on_named (named_of cells (cell_number (arrays_in tables.now) k a)) (λ c. Action.Read c) }
 {
-    let Named::Cell(c) = cell_by(tables, k, a, cells) else {
-        return Operated::Refuse(Refusal::NoSuchCell);
-    };
-    Operated::Act(Action::Read(c))
+    let c = cell_by(tables, k, a, cells).ok_or(Refusal::NoSuchCell)?;
+    Ok(Action::Read(c))
 }
 
-fn store(tables: &[u16], k: i32, a: i32, b: i32, cells: usize) -> Operated
+fn store(tables: &[u16], k: i32, a: i32, b: i32, cells: usize) -> Result<Action, Refusal>
     ensures { result ≡ on_named (named_of cells (cell_number (arrays_in tables.now) k a)) (λ c. Action.Write c b) }
 {
-    let Named::Cell(c) = cell_by(tables, k, a, cells) else {
-        return Operated::Refuse(Refusal::NoSuchCell);
-    };
-    Operated::Act(Action::Write(c, b))
+    let c = cell_by(tables, k, a, cells).ok_or(Refusal::NoSuchCell)?;
+    Ok(Action::Write(c, b))
 }
 
 // What an operation gives, with its constant k and the operands a and b on ports 0 and 1: a value, a
 // request to a cell, or a refusal. What moves tokens only, or makes tags, gives the value on port 0.
-pub fn operate(tables: &[u16], o: Operation, k: i32, cells: usize, a: i32, b: i32) -> Operated
+pub fn operate(
+    tables: &[u16],
+    o: Operation,
+    k: i32,
+    cells: usize,
+    a: i32,
+    b: i32,
+) -> Result<Action, Refusal>
     ensures { result ≡ operated_of o (arrays_in tables.now) k cells a b }
 {
     match o {
-        Operation::Const => Operated::Act(Action::Send(k)),
+        Operation::Const => Ok(Action::Send(k)),
         Operation::Fetch => fetch(tables, k, a, cells),
         Operation::Store => store(tables, k, a, b, cells),
         Operation::OnTwo(x) => computed(arithmetic::compute(x, a, b)),
         Operation::OnConstant(x) => computed(arithmetic::compute(x, a, k)),
-        _ => Operated::Act(Action::Send(a)),
+        _ => Ok(Action::Send(a)),
     }
 }

@@ -6,13 +6,14 @@ ghost use Rattle.fire_effect.specs.Effects.{key_held, Sends};
 use record::instruction::{Destination, Instruction};
 use record::tag::Tag;
 
-#[derive(Clone, Copy)]
+#[derive(Clone, Copy, PartialEq, Eq)]
 pub struct Key {
     pub tag: Tag,
     pub port: u8,
 }
 
 // No, one or two outputs, destination 1 first: `count` says how many of the two keys are meant.
+// No optional keys: `under` gives both keys in any case, since to choose between them would cost more.
 #[derive(Clone, Copy)]
 pub struct Outputs {
     pub count: u8,

@@ -14,15 +14,9 @@ use crate::output::Outputs;
 use record::instruction;
 use record::instruction::{Destination, Instruction};
 use record::operation::Operation;
-use record::tag::{Entered, Left, Next, Tag};
+use record::tag::Tag;
 use rules::answer::Refusal;
 use store_enabled::Tables;
-
-#[derive(Clone, Copy)]
-pub enum NewTags {
-    Refuse(Refusal),
-    To(Outputs),
-}
 
 // A constant that the check of the graph has found to be at most a byte.
 fn byte(constant: i32) -> u8
@@ -33,28 +27,28 @@ fn byte(constant: i32) -> u8
 }
 
 // Each destination in use.
-fn to_all(tag: Tag, r: Instruction) -> NewTags
+fn to_all(tag: Tag, r: Instruction) -> Result<Outputs, Refusal>
     ensures { Makes result (λ v. Machine.send v (all_under tag r)) }
 {
-    NewTags::To(output::under(tag, r))
+    Ok(output::under(tag, r))
 }
 
 // One destination.
-fn to_one(tag: Tag, d: Destination) -> NewTags
+fn to_one(tag: Tag, d: Destination) -> Result<Outputs, Refusal>
     ensures { Makes result (λ v. Machine.send v (key_under tag d ∷ [])) }
 {
-    NewTags::To(output::one(output::key_under(tag, d)))
+    Ok(output::one(output::key_under(tag, d)))
 }
 
 // None: the operands are spent all the same.
-fn to_none(tag: Tag) -> NewTags
+fn to_none(tag: Tag) -> Result<Outputs, Refusal>
     ensures { Makes result (λ v. Machine.send v []) }
 {
-    NewTags::To(output::none(tag))
+    Ok(output::none(tag))
 }
 
 // SWITCH: "port 0 to destination 1 if port 1 is not 0, else to destination 2".
-fn switch(control: i32, tag: Tag, r: Instruction) -> NewTags
+fn switch(control: i32, tag: Tag, r: Instruction) -> Result<Outputs, Refusal>
     ensures { Makes result (λ v. Machine.send v (key_under tag (side_of control r) ∷ [])) }
 {
     if control == 0 {
@@ -67,31 +61,31 @@ fn switch(control: i32, tag: Tag, r: Instruction) -> NewTags
 }
 
 // NEXT. 13: "NEXT at 255".
-fn next(tag: Tag, r: Instruction) -> NewTags
+fn next(tag: Tag, r: Instruction) -> Result<Outputs, Refusal>
     ensures { Makes result (send_next (next_of tag) r) }
 {
-    let Next::Is(later) = tag.next() else {
-        return NewTags::Refuse(Refusal::Iteration);
+    let Some(later) = tag.next() else {
+        return Err(Refusal::Iteration);
     };
     to_all(later, r)
 }
 
 // ENTER: destination 2 is the site's return instruction and gets no token here. 14: "ENTER at four
 // levels".
-fn enter(tag: Tag, r: Instruction) -> NewTags
+fn enter(tag: Tag, r: Instruction) -> Result<Outputs, Refusal>
     requires { within 0 255 r.constant ≡ true }
     ensures { Makes result (send_entered (enter_of tag (nat_abs r.constant)) r) }
 {
     let body = r.first;
-    let Entered::In(inner) = tag.enter(byte(r.constant)) else {
-        return NewTags::Refuse(Refusal::TooDeep);
+    let Some(inner) = tag.enter(byte(r.constant)) else {
+        return Err(Refusal::TooDeep);
     };
     to_one(inner, body)
 }
 
 // LEAVE once the caller's tag is known: `back` is the site's return instruction, and k the constant.
 // 17: "return instruction plus constant past the graph".
-fn returned(graph: &[u8], back: u16, k: u8, caller: Tag) -> NewTags
+fn returned(graph: &[u8], back: u16, k: u8, caller: Tag) -> Result<Outputs, Refusal>
     requires { length graph.now / graph_width ≤ 256 }
     ensures { Makes result (send_returned (graph_of graph.now) back k caller) }
 {
@@ -103,23 +97,23 @@ fn returned(graph: &[u8], back: u16, k: u8, caller: Tag) -> NewTags
         };
         to_one(caller, d)
     } else {
-        NewTags::Refuse(Refusal::NoReturn)
+        Err(Refusal::NoReturn)
     }
 }
 
 // LEAVE. At path 0 it never fires.
-fn leave(graph: &[u8], tables: &Tables, tag: Tag, r: Instruction) -> NewTags
+fn leave(graph: &[u8], tables: &Tables, tag: Tag, r: Instruction) -> Result<Outputs, Refusal>
     requires graph_width_len_bound { length graph.now / graph_width ≤ 256 }
     requires returns { Returns (graph_of graph.now) tables.now }
     requires constant_value { within 0 255 r.constant ≡ true }
     ensures { Makes result (send_left (graph_of graph.now) (leave_of tag) r) }
 {
     let k = byte(r.constant);
-    let Left::To { site, tag: caller } = tag.leave() else {
+    let Some(caller) = tag.leave() else {
         return to_none(tag);
     };
-    let back = tables[site as usize];
-    returned(graph, back, k, caller)
+    let back = tables[caller.site as usize];
+    returned(graph, back, k, caller.tag)
 }
 
 // Where an operation's tokens go: r is the instruction of the tag, and b the operand on port 1.
@@ -132,7 +126,7 @@ pub fn new_tags(
     tag: Tag,
     r: Instruction,
     b: i32,
-) -> NewTags
+) -> Result<Outputs, Refusal>
     requires { ReadyForTags graph.now tables.now o r }
     ensures { Makes result (new_tags_of o (graph_of graph.now) tag r b) }
 {

@@ -19,8 +19,8 @@ use Rattle.record.specs.TokensAndTags.{stands_at}
 use Rattle.machine.specs.Machine.{Machine, Operands, live_value, all_there, two_values, look, operands, live_at}
 use Rattle.rules.specs.InstructionSet.{arity_in, machine_of}
 use Rattle.rules.specs.Run.{content_held}
-use Rattle.store_chains.specs.declared.Found.{Found}
-use Rattle.store_chains.specs.declared.Found.TheVariants.{At, Nothing}
+use Rattle.std.specs.Prelude.{Some, None}
+use Rattle.std.specs.Prelude as Std
 use Rattle.store_chains.specs.Search.{first_from}
 use Rattle.abstraction.specs.States.{no_token, state_held}
 use Rattle.abstraction.proofs.Keys.{search_at, found_content, held_find}
@@ -42,10 +42,10 @@ content_value i (Live v) = refl
 content_value i (Spent v) = refl
 content_value i (Deferred c) = refl
 
-found_value : (ts : List Record.Token) (f : Found) → live_value (found_content no_token ts f) ≡ value_of (operand_found ts f)
+found_value : (ts : List Record.Token) (f : Std.Option ℕ) → live_value (found_content no_token ts f) ≡ value_of (operand_found ts f)
 unfolding operand_found
-found_value ts (At i) = content_value i (get_or ts i no_token).content
-found_value ts Nothing = refl
+found_value ts (Some i) = content_value i (get_or ts i no_token).content
+found_value ts None = refl
 
 -- what the machine makes of the values at the ports below n
 abbrev chosen : (n : ℕ) → (value : ℕ → Option ℤ) → Option (Operands ℤ)
@@ -79,15 +79,15 @@ module _ (value : ℕ → Option ℤ) where
 pub record Places (n : ℕ) (ts : List Record.Token) (tag : Tag) (i j : ℕ) (v w : ℤ) : Type 0 where
   pub first_within : i < length ts
   pub second_within : j < length ts
-  pub first_found : first_from (stands_at tag 0) 0 ts ≡ At i
-  pub second_found : ((n ≡ 1) × (j ≡ i)) ⊎ ((n ≡ 2) × (first_from (stands_at tag 1) 0 ts ≡ At j))
+  pub first_found : first_from (stands_at tag 0) 0 ts ≡ Some i
+  pub second_found : ((n ≡ 1) × (j ≡ i)) ⊎ ((n ≡ 2) × (first_from (stands_at tag 1) 0 ts ≡ Some j))
   pub left : (get_or ts i no_token).content ≡ Live v
   pub right : (get_or ts j no_token).content ≡ Live w
 
 -- the same of one port
 record Place (port : ℕ) (ts : List Record.Token) (tag : Tag) (i : ℕ) (v : ℤ) : Type 0 where
   within : i < length ts
-  found : first_from (stands_at tag port) 0 ts ≡ At i
+  found : first_from (stands_at tag port) 0 ts ≡ Some i
   value : (get_or ts i no_token).content ≡ Live v
 
 module _ (ts : List Record.Token) (tag : Tag) where
@@ -95,11 +95,11 @@ module _ (ts : List Record.Token) (tag : Tag) where
   unfolding operand_at operand_found operand_held
   operand_place port {i} {v} h = go (first_from (stands_at tag port) 0 ts) refl h
     where
-      at : (k : ℕ) → first_from (stands_at tag port) 0 ts ≡ At k → (x : RecordContent.Content) → (get_or ts k no_token).content ≡ x
+      at : (k : ℕ) → first_from (stands_at tag port) 0 ts ≡ Some k → (x : RecordContent.Content) → (get_or ts k no_token).content ≡ x
           → operand_held k x ≡ Held i v → Place port ts tag i v
       at k e (Live u) c q =
           let p : k ≡ i = cc in
-          let f : first_from (stands_at tag port) 0 ts ≡ At i = e ∙ ap At p in
+          let f : first_from (stands_at tag port) 0 ts ≡ Some i = e ∙ ap Some p in
           record {
             within = (search_at (stands_at tag port) no_token i ts f).within;
             found = f;
@@ -108,9 +108,9 @@ module _ (ts : List Record.Token) (tag : Tag) where
       at k e (Spent u) c q = absurd (let z : ◌≡◌ {A = ℕ} 0 1 = cc in omega arith)
       at k e (Deferred u) c q = absurd (let z : ◌≡◌ {A = ℕ} 0 1 = cc in omega arith)
 
-      go : (f : Found) → first_from (stands_at tag port) 0 ts ≡ f → operand_found ts f ≡ Held i v → Place port ts tag i v
-      go (At k) e q = at k e (get_or ts k no_token).content refl q
-      go Nothing e q = absurd (let z : ◌≡◌ {A = ℕ} 0 1 = cc in omega arith)
+      go : (f : Std.Option ℕ) → first_from (stands_at tag port) 0 ts ≡ f → operand_found ts f ≡ Held i v → Place port ts tag i v
+      go (Some k) e q = at k e (get_or ts k no_token).content refl q
+      go None e q = absurd (let z : ◌≡◌ {A = ℕ} 0 1 = cc in omega arith)
 
   one_place : {i j : ℕ} {v w : ℤ} (o : Operand) → operand_at ts tag 0 ≡ o → one o ≡ Both i j v w → Places 1 ts tag i j v w
   unfolding one

@@ -14,30 +14,29 @@ use Rattle.record.specs.TokensAndTags.{stands_at, decode_token, tokens, token_at
 use Rattle.record.specs.Widths.{token_width}
 use Rattle.record.specs.declared.token.Content.{Content}
 use Rattle.record.specs.declared.token.Content.TheVariants.{Live, Spent, Deferred}
-use Rattle.store_chains.specs.declared.Found.{Found}
-use Rattle.store_chains.specs.declared.Found.TheVariants.{At, Nothing}
+use Rattle.std.specs.Prelude.{Option, Some, None, unwrap_or}
 use Rattle.store_chains.specs.Search.{first_from}
 use Rattle.store_chains.specs.Partners.{partner_at}
 use Rattle.store_chains.proofs.Search.{first_cons}
 use Rattle.store_chains.proofs.Index.{and_left, and_right, found_within}
 use Rattle.store_enabled.specs.Enabled.{is_live_record, live_on, operands_live, tag_same, earliest_of}
-use Rattle.store_enabled.specs.Store.{Known, place_or, live_found}
+use Rattle.store_enabled.specs.Store.{Known, live_found}
 use Rattle.store_enabled.proofs.Places.{stands_tag, stands_other, live_found_lem}
 use Rattle.store_enabled.proofs.Store.{all_at, known_few, known_partner}
 use Rattle.abstraction.specs.States.{no_token}
 use Rattle.fire_operands.specs.Operands.{Held, operand_held, operand_found, operand_at, one, two, both_at, Earliest, matched_at}
 
-first_on_port : (tag : Tag) (d : Token) (ts : List Token) (i : ℕ) → i < length ts → earliest_of ts tag ≡ i → first_from (stands_at tag (get_or ts i d).port) 0 ts ≡ At i
+first_on_port : (tag : Tag) (d : Token) (ts : List Token) (i : ℕ) → i < length ts → earliest_of ts tag ≡ i → first_from (stands_at tag (get_or ts i d).port) 0 ts ≡ Some i
 first_on_port tag d [] i h p = absurd (omega arith)
 first_on_port tag d (t ∷ ts) zero h p = go (tag_same tag t.tag) refl p
   where
-    go : (s : Bool) → tag_same tag t.tag ≡ s → cond s 0 (suc (earliest_of ts tag)) ≡ 0 → first_from (stands_at tag t.port) 0 (t ∷ ts) ≡ At 0
+    go : (s : Bool) → tag_same tag t.tag ≡ s → cond s 0 (suc (earliest_of ts tag)) ≡ 0 → first_from (stands_at tag t.port) 0 (t ∷ ts) ≡ Some 0
     go true e q = rw (stands_tag tag t.port t refl e)
     go false e q = absurd (omega arith)
 first_on_port tag d (t ∷ ts) (suc i) h p = go (get_or ts i d).port (tag_same tag t.tag) refl p (first_on_port tag d ts i (omega arith))
   where
-    go : (port : ℕ) (s : Bool) → tag_same tag t.tag ≡ s → cond s 0 (suc (earliest_of ts tag)) ≡ suc i → (earliest_of ts tag ≡ i → first_from (stands_at tag port) 0 ts ≡ At i)
-        → first_from (stands_at tag port) 0 (t ∷ ts) ≡ At (suc i)
+    go : (port : ℕ) (s : Bool) → tag_same tag t.tag ≡ s → cond s 0 (suc (earliest_of ts tag)) ≡ suc i → (earliest_of ts tag ≡ i → first_from (stands_at tag port) 0 ts ≡ Some i)
+        → first_from (stands_at tag port) 0 (t ∷ ts) ≡ Some (suc i)
     go port true e q ih = absurd (omega arith)
     go port false e q ih = first_cons (stands_at tag port) t ts ∙ rw (stands_other tag port t e, ih (omega arith))
 
@@ -64,14 +63,14 @@ unfolding operands_live
 both_live_lem ts tag e = (and_left (live_on ts tag 0) (live_on ts tag 1) e, and_right (live_on ts tag 0) (live_on ts tag 1) e)
 
 -- what a search of a live port found, as an operand
-found_operand : (n : ℕ) (l : List ℕ) (tag : Tag) (port d : ℕ) (f : Found) → f ≡ first_from (stands_at tag port) 0 (tokens n l) → live_on (tokens n l) tag port ≡ true
-    → (place_or f d < n) × (operand_at (tokens n l) tag port ≡ Held (place_or f d) (value_in (token_at l (place_or f d)).content))
+found_operand : (n : ℕ) (l : List ℕ) (tag : Tag) (port d : ℕ) (f : Option ℕ) → f ≡ first_from (stands_at tag port) 0 (tokens n l) → live_on (tokens n l) tag port ≡ true
+    → (unwrap_or f d < n) × (operand_at (tokens n l) tag port ≡ Held (unwrap_or f d) (value_in (token_at l (unwrap_or f d)).content))
 unfolding operand_at operand_found
-found_operand n l tag port d (At i) e h =
+found_operand n l tag port d (Some i) e h =
     let within : i < n = rw (← e) at (found_within (stands_at tag port) n l) in
     let live : is_live_record (token_at l i).content ≡ true = ap (live_found (token_at l)) e ∙ live_found_lem tag port n l ∙ h in
     (within, rw (← e, get_d_rows token_width decode_token n i l no_token within) (live_value_lem i (token_at l i).content live))
-found_operand n l tag port d Nothing e h = let z : ◌≡◌ {A = ℕ} 0 1 = ap (λ b. cond b 1 0) (ap (live_found (token_at l)) e ∙ live_found_lem tag port n l ∙ h) in absurd (omega arith)
+found_operand n l tag port d None e h = let z : ◌≡◌ {A = ℕ} 0 1 = ap (λ b. cond b 1 0) (ap (live_found (token_at l)) e ∙ live_found_lem tag port n l ∙ h) in absurd (omega arith)
 
 same_place : (b : Bool) (i : ℕ) → cond b i i ≡ i
 same_place true i = refl
@@ -97,11 +96,11 @@ module _ {arity used place : ℕ} {links ledger : List ℕ} {tag : Tag} (k : Kno
     pub port_low : t.port < 2
     port_low = rw there at (all_at (λ (u : Token). u.port < 2) ts place no_token e.within k.ports)
 
-    own_found : At place ≡ first_from (stands_at tag t.port) 0 ts
+    own_found : Some place ≡ first_from (stands_at tag t.port) 0 ts
     own_found = sym (rw there at (first_on_port tag no_token ts place e.within e.first))
 
     own_operand : live_on ts tag t.port ≡ true → operand_at ts tag t.port ≡ Held place (value_in t.content)
-    own_operand h = (found_operand used ledger tag t.port place (At place) own_found h).1 ∙ ap (λ (u : Token). Held place (value_in u.content)) (sym same)
+    own_operand h = (found_operand used ledger tag t.port place (Some place) own_found h).1 ∙ ap (λ (u : Token). Held place (value_in u.content)) (sym same)
 
     -- one is waited for
     pub alone : (arity ≡ 2 → ⊥) → both_at t.port place place (value_in t.content) (value_in t.content) ≡ matched_at arity ts tag
@@ -112,7 +111,7 @@ module _ {arity used place : ℕ} {links ledger : List ℕ} {tag : Tag} (k : Kno
         rw (same_place (eqb t.port 0) place, n.0, rw z at (own_operand (rw z n.1)))
 
     -- two are: what is beside it
-    module _ (two_out : arity ≡ 2) (f : Found) (beside : f ≡ partner_at links place) where
+    module _ (two_out : arity ≡ 2) (f : Option ℕ) (beside : f ≡ partner_at links place) where
       found : f ≡ first_from (stands_at tag (1 - t.port)) 0 ts
       found = beside ∙ (known_partner links ledger used k place tag t.port place_within (sym own_found)).0
 
@@ -121,20 +120,20 @@ module _ {arity used place : ℕ} {links ledger : List ℕ} {tag : Tag} (k : Kno
       live_on_lem (suc zero) h = (both_live_lem ts tag (rw two_out at e.enabled)).1
       live_on_lem (suc (suc p)) h = absurd (omega arith)
 
-      other : (place_or f place < used) × (operand_at ts tag (1 - t.port) ≡ Held (place_or f place) (value_in (token_at ledger (place_or f place)).content))
+      other : (unwrap_or f place < used) × (operand_at ts tag (1 - t.port) ≡ Held (unwrap_or f place) (value_in (token_at ledger (unwrap_or f place)).content))
       other = found_operand used ledger tag (1 - t.port) place f found (live_on_lem (1 - t.port) (omega arith))
 
-      pub other_within : place_or f place < length ledger / token_width
+      pub other_within : unwrap_or f place < length ledger / token_width
       other_within = omega (arith, other.0, k.room)
 
       -- the token stands on port 0, or on port 1
-      pub as_first : t.port ≡ 0 → both_at t.port place (place_or f place) (value_in t.content) (value_in (token_at ledger (place_or f place)).content) ≡ matched_at arity ts tag
+      pub as_first : t.port ≡ 0 → both_at t.port place (unwrap_or f place) (value_in t.content) (value_in (token_at ledger (unwrap_or f place)).content) ≡ matched_at arity ts tag
       unfolding matched_at two
       as_first z =
           let own = own_operand (live_on_lem t.port port_low) in
           rw (eq-eqb t.port 0 z, two_out, rw z at own, rw z at other.1)
 
-      pub as_second : (t.port ≡ 0 → ⊥) → both_at t.port place (place_or f place) (value_in (token_at ledger (place_or f place)).content) (value_in t.content) ≡ matched_at arity ts tag
+      pub as_second : (t.port ≡ 0 → ⊥) → both_at t.port place (unwrap_or f place) (value_in (token_at ledger (unwrap_or f place)).content) (value_in t.content) ≡ matched_at arity ts tag
       unfolding matched_at two
       as_second not_first =
           let z : t.port ≡ 1 = omega (arith, port_low) in

@@ -1,13 +1,11 @@
 -- Working definition: no public promise cites it.
 -- The operands of a tag among a ledger's tokens, as searches of the tokens. proofs/ joins them with the machine's definitions. Assumes nothing.
-use Rattle.std.specs.Prelude.{ℕ, ◌<◌, ◌≡◌, true, cond, List, length, get_or, eqb, ℤ}
+use Rattle.std.specs.Prelude.{ℕ, ◌<◌, ◌≡◌, true, cond, List, length, get_or, eqb, ℤ, Option, Some, None}
 use Rattle.record.specs.declared.tag.Tag.{Tag}
 use Rattle.record.specs.declared.token.Token.{Token}
 use Rattle.record.specs.declared.token.Content.{Content}
 use Rattle.record.specs.declared.token.Content.TheVariants.{Live, Spent, Deferred}
 use Rattle.record.specs.TokensAndTags.{stands_at}
-use Rattle.store_chains.specs.declared.Found.{Found}
-use Rattle.store_chains.specs.declared.Found.TheVariants as Search
 use Rattle.store_chains.specs.Search.{first_from}
 use Rattle.store_enabled.specs.Enabled.{earliest_of, operands_live}
 use Rattle.abstraction.specs.States.{no_token}
@@ -29,9 +27,9 @@ operand_held i (Live v) = Held i v
 operand_held i (Spent v) = Lacking
 operand_held i (Deferred cell) = Lacking
 
-unfoldable pub operand_found : List Token → Found → Operand
-operand_found ts (Search.At i) = operand_held i (get_or ts i no_token).content
-operand_found ts Search.Nothing = Lacking
+unfoldable pub operand_found : List Token → Option ℕ → Operand
+operand_found ts (Some i) = operand_held i (get_or ts i no_token).content
+operand_found ts None = Lacking
 
 unfoldable pub operand_at : List Token → Tag → (port : ℕ) → Operand
 operand_at ts tag port = operand_found ts (first_from (stands_at tag port) 0 ts)

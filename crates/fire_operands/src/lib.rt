@@ -3,16 +3,16 @@
 
 ghost use Rattle.std.specs.Prelude.{◌≡◌};
 ghost use Rattle.record.specs.TokensAndTags.{tokens, token_at, value_in};
-ghost use Rattle.store_enabled.specs.Store.{Known, place_or};
+ghost use Rattle.store_enabled.specs.Store.{Known};
 ghost use Rattle.fire_operands.specs.Operands.{both_at, Earliest, matched_at};
 
 use record::tag::Tag;
 use record::token;
 use record::token::Content;
-use store_chains::{Found, Links};
+use store_chains::Links;
 
 // The operands of an enabled activity: one stands at its place, the other here, and the values are by ports. Where one is waited for,
-// it stands for both.
+// it stands for both: no Option, since `store::spend_operands` spends both places without a test, and one given twice is spent once.
 #[derive(Clone, Copy)]
 pub struct Operands {
     pub other: usize,
@@ -28,15 +28,6 @@ fn value_in(content: Content) -> i32
         Content::Live(v) => v,
         Content::Spent(v) => v,
         Content::Deferred(cell) => number::signed(cell),
-    }
-}
-
-fn place_or(f: Found, other: usize) -> usize
-    ensures { result ≡ place_or f other }
-{
-    match f {
-        Found::At(i) => i,
-        Found::Nothing => other,
     }
 }
 
@@ -63,7 +54,7 @@ pub fn operands_of(
             right: own,
         };
     }
-    let other = place_or(store::partner(links, place), place);
+    let other = store::partner(links, place).unwrap_or(place);
     let u = token::token_at(ledger, other);
     let found = u.content;
     let value = value_in(found);

@@ -28,8 +28,7 @@ use Rattle.fire_effect.specs.contracts.operate.Action as Actions
 use Rattle.buffer.proofs.Tables.{length_joined, put_joined, length_rows, get_d_rows}
 use Rattle.record.proofs.Records.{length_token, length_cell, cells_put}
 use Rattle.record.specs.Widths.{token_width, cell_width, state_offset}
-use Rattle.store_chains.specs.declared.Found.{Found}
-use Rattle.store_chains.specs.declared.Found.TheVariants.{At, Nothing}
+use Rattle.std.specs.Prelude.{Option, Some, None}
 use Rattle.store_chains.specs.declared.Slot.{Slot}
 use Rattle.store_chains.specs.Search.{first_from}
 use Rattle.store_chains.specs.Slots.{Open}
@@ -257,10 +256,10 @@ woken_count (Write c v) ts = length-map ts (woken c v)
 search_added : (p : Token → Bool) (ts us : List Token) (u : Token) → length ts ≡ length us → first_from p 0 ts ≡ first_from p 0 us → first_from p 0 (ts ++ u ∷ []) ≡ first_from p 0 (us ++ u ∷ [])
 search_added p ts us u len e = go (first_from p 0 us) refl (p u) refl
   where
-    go : (f : Found) → first_from p 0 us ≡ f → (b : Bool) → p u ≡ b → first_from p 0 (ts ++ u ∷ []) ≡ first_from p 0 (us ++ u ∷ [])
-    go (At i) q b h = first_kept_lem p ts (u ∷ []) 0 i (e ∙ q) ∙ sym (first_kept_lem p us (u ∷ []) 0 i q)
-    go Nothing q true h = first_added p u ts (e ∙ q) h ∙ ap At len ∙ sym (first_added p u us q h)
-    go Nothing q false h = first_none_added p ts u 0 (e ∙ q) h ∙ sym (first_none_added p us u 0 q h)
+    go : (f : Option ℕ) → first_from p 0 us ≡ f → (b : Bool) → p u ≡ b → first_from p 0 (ts ++ u ∷ []) ≡ first_from p 0 (us ++ u ∷ [])
+    go (Some i) q b h = first_kept_lem p ts (u ∷ []) 0 i (e ∙ q) ∙ sym (first_kept_lem p us (u ∷ []) 0 i q)
+    go None q true h = first_added p u ts (e ∙ q) h ∙ ap Some len ∙ sym (first_added p u us q h)
+    go None q false h = first_none_added p ts u 0 (e ∙ q) h ∙ sym (first_none_added p us u 0 q h)
 
 open_same : (ts us : List Token) (tag : Tag) (port : ℕ) (s : Slot) → ((p : ℕ) → first_from (stands_at tag p) 0 ts ≡ first_from (stands_at tag p) 0 us) → Open us tag port s → Open ts tag port s
 open_same ts us tag port s e o = record { free = e port ∙ o.free; bucket = o.bucket; partner = o.partner ∙ sym (e (1 - port)) }

@@ -17,8 +17,7 @@ use Rattle.record.specs.declared.token.Content.{Content}
 use Rattle.record.specs.declared.token.Content.TheVariants.{Live, Spent, Deferred}
 use Rattle.record.specs.declared.instruction.Instruction.{Instruction}
 use Rattle.record.specs.TokensAndTags.{same_tag, stands_at}
-use Rattle.store_chains.specs.declared.Found.{Found}
-use Rattle.store_chains.specs.declared.Found.TheVariants.{At, Nothing}
+use Rattle.std.specs.Prelude.{Option, Some, None}
 use Rattle.store_chains.specs.Search.{first_from}
 use Rattle.store.specs.Matching.{content_spent, spent_token}
 use Rattle.machine.specs.Machine.{Machine, Token, changed, find, is_operand_of, spend_at}
@@ -130,14 +129,14 @@ module _ (g : List Instruction) (table : List NamedArray) (capacity cells : ℕ)
       gone : find M (record { tag = tag; port = port }) (map token_held ts) ≡ none
       gone = ap (λ q. find M q (map token_held ts)) (sym (stands tag port t e)) ∙ d.0
 
-      go : (f : Found) → first_from (stands_at tag port) 0 ts ≡ f → stands_at tag port (get_or ts k no_token) ≡ false
-      go Nothing q = none_stands tag port ts no_token q k (omega arith)
-      go (At n) q = none_some (sym gone ∙ held_find g table capacity cells tag port no_token ts ∙ ap (found_content no_token ts) q)
+      go : (f : Option ℕ) → first_from (stands_at tag port) 0 ts ≡ f → stands_at tag port (get_or ts k no_token) ≡ false
+      go None q = none_stands tag port ts no_token q k (omega arith)
+      go (Some n) q = none_some (sym gone ∙ held_find g table capacity cells tag port no_token ts ∙ ap (found_content no_token ts) q)
   later_elsewhere tag port (t ∷ ts) d (suc i) zero h l e = absurd (omega arith)
   later_elsewhere tag port (t ∷ ts) d (suc i) (suc k) h l e = later_elsewhere tag port ts d.1 i k (omega arith) (omega arith) e
 
   -- the one that is found is the only one there
-  elsewhere : (tag : Tag) (port i : ℕ) (ts : List Record.Token) → Distinct M (map token_held ts) → first_from (stands_at tag port) 0 ts ≡ At i
+  elsewhere : (tag : Tag) (port i : ℕ) (ts : List Record.Token) → Distinct M (map token_held ts) → first_from (stands_at tag port) 0 ts ≡ Some i
       → (k : ℕ) → k < length ts → (k ≡ i → ⊥) → stands_at tag port (get_or ts k no_token) ≡ false
   elsewhere tag port i ts d e k h n = go (dec_le (suc k) i)
     where
@@ -152,7 +151,7 @@ module _ (g : List Instruction) (table : List NamedArray) (capacity cells : ℕ)
   spending_at tag port t = cond (stands_at tag port t) (spent_token t) t
 
   -- one place
-  spend_found : (tag : Tag) (port i : ℕ) (ts : List Record.Token) → Distinct M (map token_held ts) → first_from (stands_at tag port) 0 ts ≡ At i → map (spending_at tag port) ts ≡ spend_one i ts
+  spend_found : (tag : Tag) (port i : ℕ) (ts : List Record.Token) → Distinct M (map token_held ts) → first_from (stands_at tag port) 0 ts ≡ Some i → map (spending_at tag port) ts ≡ spend_one i ts
   unfolding spend_one
   spend_found tag port i ts d e =
       let f = found_stands tag port i ts no_token e in
@@ -166,7 +165,7 @@ module _ (g : List Instruction) (table : List NamedArray) (capacity cells : ℕ)
       ∙ map_same _ _ (λ t. ap (λ (b : Bool). record { key = (token_held t).key; content = cond b (Machines.spend (content_held t.content)) (content_held t.content) }) (e t) ∙ spent_content (p t) t) ts
       ∙ sym (map_map token_held (λ t. cond (p t) (spent_token t) t) ts)
 
-  pub spent_one_lem : (tag : Tag) (i : ℕ) (ts : List Record.Token) → arity_in g tag ≡ 1 → Distinct M (map token_held ts) → first_from (stands_at tag 0) 0 ts ≡ At i
+  pub spent_one_lem : (tag : Tag) (i : ℕ) (ts : List Record.Token) → arity_in g tag ≡ 1 → Distinct M (map token_held ts) → first_from (stands_at tag 0) 0 ts ≡ Some i
       → map (changed (spend_at M tag)) (map token_held ts) ≡ map token_held (spent_at i i ts)
   unfolding spent_at stands_at
   spent_one_lem tag i ts a d e =
@@ -195,7 +194,7 @@ module _ (g : List Instruction) (table : List NamedArray) (capacity cells : ℕ)
       ∙ ap (λ (b : Bool). cond b (spent_token (spending_at tag 0 t)) (spending_at tag 0 t)) (sym (spent_stands tag 1 (stands_at tag 0 t) t))
 
   pub spent_two : (tag : Tag) (i j : ℕ) (ts : List Record.Token) → arity_in g tag ≡ 2 → Distinct M (map token_held ts)
-      → first_from (stands_at tag 0) 0 ts ≡ At i → first_from (stands_at tag 1) 0 ts ≡ At j
+      → first_from (stands_at tag 0) 0 ts ≡ Some i → first_from (stands_at tag 1) 0 ts ≡ Some j
       → map (changed (spend_at M tag)) (map token_held ts) ≡ map token_held (spent_at i j ts)
   unfolding spent_at spend_one
   spent_two tag i j ts a d e f =

@@ -10,7 +10,6 @@ use Rattle.buffer.specs.Rows.{joined, All}
 use Rattle.record.specs.TokensAndTags.{tokens}
 use Rattle.record.specs.Cells as Cells
 use Rattle.record.specs.Widths.{token_width, cell_width}
-use Rattle.store_flags.specs.Flags.{flags_of}
 use Rattle.store_chains.specs.declared.Slot.{Slot}
 use Rattle.store_chains.specs.Slots.{Open}
 use Rattle.store_chains.specs.Deferred.{woken}
@@ -147,5 +146,5 @@ pub record Fireable (tables links flags ledger cells : List ℕ) (used place oth
   pub few : length ledger / token_width ≤ 2048
   pub activity : Spendable ledger used place other
   -- it is enabled
-  pub raised : get_or (flags_of flags) place 0 ≡ 1
+  pub raised : get_or flags place 0 ≡ 1
   pub store : CellStore cells

@@ -88,14 +88,12 @@ fn append_outputs(
     let n = outputs.count as usize;
     let mut key = outputs.first;
     let mut slot = first;
-    let mut k = 0;
-    while k < n {
+    for k in 0..n {
         append_one(tables, links, flags, ledger, used + k, key, content, slot);
         key = outputs.second;
         slot = second;
-        k += 1;
     }
-    used + k
+    used + n
 }
 
 // FETCH: the content of its outputs is the value of a present cell; otherwise they are deferred, and the cell waits.

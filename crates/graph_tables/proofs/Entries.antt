@@ -1,4 +1,5 @@
 -- The two tables of a graph, entry by entry. Assumes nothing.
+use Rattle.std.proofs.Common.{Ok}
 use Prim.Native.Nat.{ℕ, zero, suc, ◌+◌, ◌*◌, ◌/◌, ◌≤◌, ◌<◌}
 use native.Mathlib.Omega.{arith}
 use native.Mathlib.Decide.{dec_le}
@@ -14,7 +15,6 @@ use Rattle.record.specs.declared.tag.Tag.{Tag}
 use Rattle.record.specs.declared.instruction.Instruction.{Instruction}
 use Rattle.record.specs.GraphRecords.{graph_of, operands_of}
 use Rattle.record.specs.Widths.{graph_width}
-use Rattle.rules.specs.declared.answer.Checked.TheVariants.{Passed}
 use Rattle.rules.specs.Check.{check_graph, enters_site}
 use Rattle.rules.specs.InstructionSet.{arity_in, return_of}
 use Rattle.rules.proofs.PassedGraph.{two_operands}
@@ -57,7 +57,7 @@ past_end (x ∷ l) zero h = absurd (omega arith)
 past_end (x ∷ l) (suc k) h = past_end l k (omega arith)
 
 -- an instruction past the table is past the graph too
-pub all_arities : (graph tables : List ℕ) → check_graph graph ≡ Passed → length tables ≡ 641
+pub all_arities : (graph tables : List ℕ) → check_graph graph ≡ Ok tt → length tables ≡ 641
     → ((τ : Tag) → τ.instruction < 256 → arity_of tables τ ≡ arity_in (graph_of graph) τ) → Arities (graph_of graph) tables
 unfolding waited_for
 all_arities graph tables passed size right τ = go (dec_le (suc τ.instruction) 256)

@@ -2,7 +2,7 @@
 // entries for operand counts by instruction.
 #![tactic(auto)]
 
-ghost use Rattle.std.specs.Prelude.{◌≡◌, ℕ, ◌+◌, ◌/◌, ◌≤◌, ◌<◌, length, get_or};
+ghost use Rattle.std.specs.Prelude.{◌≡◌, ℕ, ◌+◌, ◌/◌, ◌≤◌, ◌<◌, length, get_or, Ok};
 ghost use Rattle.record.specs.Widths.{array_width};
 ghost use Rattle.record.specs.Arrays.{most_arrays, arrays_of};
 ghost use Rattle.record.specs.GraphRecords.{OperandCounts, graph_of};
@@ -10,7 +10,6 @@ ghost use Rattle.record.specs.declared.tag.Tag.{Tag};
 ghost use Rattle.rules.specs.InstructionSet.{arity_in};
 ghost use Rattle.store_enabled.specs.Enabled.{waited_for};
 ghost use Rattle.check_fields.specs.Sites.{at_site};
-ghost use Rattle.rules.specs.declared.answer.Checked.TheVariants.{Passed};
 ghost use Rattle.rules.specs.Check.{check_graph};
 ghost use Rattle.abstraction.specs.Tables.{Arities, Returns, arrays_in, TablesOf};
 
@@ -38,15 +37,13 @@ fn entry_at(counts: &[u8; 256], graph: &[u8], i: usize) -> u16
 
 // The entries for operand counts, behind all else.
 fn arities(graph: &[u8], out: &mut Tables)
-    requires { (check_graph graph.now ≡ Passed) × (length out.old ≡ 641) }
+    requires { (check_graph graph.now ≡ Ok tt) × (length out.old ≡ 641) }
     ensures arities { Arities (graph_of graph.now) out.new × (length out.new ≡ 641) }
     ensures returns { Returns (graph_of graph.now) out.old → Returns (graph_of graph.now) out.new }
 {
     let counts = operation::counts();
-    let mut i = 0;
-    while i < 256 {
+    for i in 0..256 {
         out[i + 385] = entry_at(&counts, graph, i);
-        i += 1;
     }
 }
 
@@ -69,9 +66,7 @@ fn returns(graph: &[u8], out: &mut Tables)
     ensures { Returns (graph_of graph.now) out.new × (length out.new ≡ 641) }
 {
     *out = [0u16; store_enabled::TABLES_LENGTH];
-    let mut i = graph.len() / instruction::WIDTH;
-    while 0 < i {
-        i -= 1;
+    for i in (0..graph.len() / instruction::WIDTH).rev() {
         note(out, instruction::instruction_at(graph, i));
     }
 }
@@ -85,18 +80,16 @@ fn name(arrays: &[u8], out: &mut Tables)
 {
     let n = arrays.len() / array::WIDTH;
     out[256] = n as u16;
-    let mut i = 0;
-    while i < n {
+    for i in 0..n {
         let a = array::array_at(arrays, i);
         out[i * 2 + 257] = a.first;
         out[i * 2 + 258] = a.length;
-        i += 1;
     }
 }
 
 // All of them, of a graph that passed its check and a table that is not too long.
 pub fn make(graph: &[u8], arrays: &[u8], out: &mut Tables)
-    requires { (check_graph graph.now ≡ Passed) × (length arrays.now / array_width ≤ most_arrays) }
+    requires { (check_graph graph.now ≡ Ok tt) × (length arrays.now / array_width ≤ most_arrays) }
     ensures { TablesOf graph.now arrays.now out.new }
 {
     returns(graph, out);

@@ -26,10 +26,10 @@ use Rattle.machine.proofs.Store.{After, Answer, commit_result}
 use Rattle.rules.specs.declared.answer.Refusal.{Refusal}
 use Rattle.rules.specs.InstructionSet.{arity_in}
 use Rattle.rules.specs.Run.{content_held, token_held}
-use Rattle.store_flags.specs.Flags.{places, flags_of}
+use Rattle.store_flags.specs.Flags.{places}
 use Rattle.store_flags.specs.Marks.{bit}
-use Rattle.store_chains.specs.declared.Found.{Found}
-use Rattle.store_chains.specs.declared.Found.TheVariants.{At}
+use Rattle.std.specs.Prelude.{Some}
+use Rattle.std.specs.Prelude as Std
 use Rattle.store_chains.proofs.Index.{and_left, and_right}
 use Rattle.store_enabled.specs.Enabled.{is_live_record, live_on, operands_live, arity_of, is_enabled, earliest_of, leads_in, enabled_places}
 use Rattle.store_enabled.specs.Store.{live_found}
@@ -145,16 +145,16 @@ port_live n ts tag p low h = go (eqb n 1) (eqb n 2) refl refl h
     go false true e f k = which (eqb p 0) refl (omega (arith, eqb-true n 2 f)) k
     go false false e f k = let z : ◌≡◌ {A = ℕ} 0 1 = ap bit k in absurd (omega arith)
 
-found_live : (l : List ℕ) (f : Found) (i : ℕ) → f ≡ At i → live_found (token_at l) f ≡ is_live_record (token_at l i).content
+found_live : (l : List ℕ) (f : Std.Option ℕ) (i : ℕ) → f ≡ Some i → live_found (token_at l) f ≡ is_live_record (token_at l i).content
 found_live l f i e = ap (live_found (token_at l)) e
 
-pub flags_unspent : (g : List Instruction) {tables links flags ledger : List ℕ} {used : ℕ} → Arities g tables → OnPorts g (tokens used ledger) → Matching tables links flags ledger used → FlagsUnspent (flags_of flags) ledger used
+pub flags_unspent : (g : List Instruction) {tables links flags ledger : List ℕ} {used : ℕ} → Arities g tables → OnPorts g (tokens used ledger) → Matching tables links flags ledger used → FlagsUnspent flags ledger used
 unfolding Single
 flags_unspent g {tables} {links} {flags} {ledger} {used} right ports m i low on =
     let ts = tokens used ledger in
     let t = token_at ledger i in
-    let (j, lt, e) = among 0 i (flags_of flags) (omega arith) in
-    let all : places (flags_of flags) ≡ enabled_places tables ts = matching_places m in
+    let (j, lt, e) = among 0 i flags (omega arith) in
+    let all : places flags ≡ enabled_places tables ts = matching_places m in
     let at : get_or (enabled_places tables ts) j 0 ≡ i = ap (λ (l : List ℕ). get_or l j 0) (sym all) ∙ sym e ∙ zero_less i in
     let lead : leads_in tables ts i t ≡ true = subst (λ (p : ℕ). leads_in tables ts p (token_at ledger p) ≡ true) at (matching_leads m j (subst (λ (l : List ℕ). j < length l) all lt)) in
     let enabled : operands_live (arity_of tables t.tag) ts t.tag ≡ true = and_right (eqb (earliest_of ts t.tag) i) (is_enabled tables ts t.tag) lead in
@@ -162,7 +162,7 @@ flags_unspent g {tables} {links} {flags} {ledger} {used} right ports m i low on 
     let here : get_or ts i no_token ≡ t = get_d_rows token_width decode_token used i ledger no_token low in
     let port = subst (λ (u : Record.Token). 0 < arity_in g u.tag → u.port < arity_in g u.tag) here (all_at (λ (u : Record.Token). 0 < arity_in g u.tag → u.port < arity_in g u.tag) ts i no_token inside ports) in
     let within : t.port < arity_of tables t.tag = subst (λ (a : ℕ). t.port < a) (sym (right t.tag)) (port (subst (λ (a : ℕ). 0 < a) (right t.tag) (some_live (arity_of tables t.tag) ts t.tag enabled))) in
-    let single = subst (λ (u : Record.Token). ◌≡◌ {A = Found} (first_from (stands_at u.tag u.port) 0 ts) (At i)) here ((matching_stored m).known.single i no_token inside) in
+    let single = subst (λ (u : Record.Token). ◌≡◌ {A = Std.Option ℕ} (first_from (stands_at u.tag u.port) 0 ts) (Some i)) here ((matching_stored m).known.single i no_token inside) in
     live_unspent t.content (sym (found_live ledger _ i single) ∙ live_found_lem t.tag t.port used ledger ∙ port_live (arity_of tables t.tag) ts t.tag t.port within enabled)
   where
     zero_less : (i : ℕ) → 0 + i ≡ i

@@ -15,10 +15,9 @@ use Rattle.record.specs.TokensAndTags.{token_at, is_spent_record}
 use Rattle.machine.specs.Machine.{on_option}
 use Rattle.rules.specs.Check.{instruction_at}
 use Rattle.rules.specs.Held.{stands_in}
-use Rattle.store_flags.specs.Flags.{Under, flags_of}
+use Rattle.store_flags.specs.Flags.{Under}
 use Rattle.store_flags.specs.Marks.{bit}
 use Rattle.store_flags.proofs.Laws.{zero_at}
-use Rattle.store_flags.proofs.Words.{none_set, counted_none}
 use Rattle.ending.specs.Endings.{proper_by}
 use Rattle.held.specs.Searching.{holds_by, MarkedPast}
 use Rattle.held.specs.Deciding.{ClearFrom, is_next, is_late_next, Listed, NewListed, Dropped, spent_there, as_before, FlagsUnspent, Standing, AllStanding, Later, Carried}
@@ -138,8 +137,6 @@ module _ (g : List Instruction) (tables ledger ledger' : List ℕ) (k used : ℕ
   pub carried_later : (nexts held marks : List ℕ) → Carried g tables ledger k used nexts held marks → Carried g tables ledger' k used nexts held marks
   unfolding is_next is_late_next
   carried_later nexts held marks c = record {
-    counted_nexts = c.counted_nexts;
-    counted_held = c.counted_held;
     clear = c.clear;
     under = c.under;
     listed = λ i low none next. later.spent i low (c.listed i low none (ap (λ (τ : Tag). eqb (instruction_at g τ.instruction).code 7 && leb k (τ.iteration + 1)) (sym (later.tags i low)) ∙ next));
@@ -155,10 +152,8 @@ module _ (g : List Instruction) (tables ledger ledger' : List ℕ) (k used : ℕ
 
 -- ---- before the first
 
-pub carried_none : (g : List Instruction) (tables ledger : List ℕ) (k : ℕ) → Carried g tables ledger k 0 (replicate 69 0) (replicate 69 0) (replicate 4096 0)
+pub carried_none : (g : List Instruction) (tables ledger : List ℕ) (k : ℕ) → Carried g tables ledger k 0 (replicate 2048 0) (replicate 2048 0) (replicate 4096 0)
 carried_none g tables ledger k = record {
-  counted_nexts = counted_none;
-  counted_held = counted_none;
   clear = λ i l. none i;
   under = λ i. omega arith;
   listed = λ i low. absurd (omega arith);
@@ -170,5 +165,5 @@ carried_none g tables ledger k = record {
   standing = λ i one. absurd (omega (arith, none i));
 }
   where
-    none : (i : ℕ) → get_or (flags_of (replicate 69 0)) i 0 ≡ 0
-    none i = rw none_set (zero_at 2048 i)
+    none : (i : ℕ) → get_or (replicate {A = ℕ} 2048 0) i 0 ≡ 0
+    none i = zero_at 2048 i

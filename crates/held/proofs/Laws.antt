@@ -114,8 +114,8 @@ module _ (g : List Instruction) (k : ℕ) (ledger : List ℕ) (used n : ℕ) (ne
   pub none_listed : used ≤ n → ClearFrom used nexts₀ → ListedTo nexts₀ used
   none_listed h c = record { low = omega arith; high = h; same = λ j l. refl; new = λ j l u. absurd (omega arith); clear = c }
 
-  pub one_listed : (nexts : List ℕ) (i : ℕ) → ListedTo nexts i → i < n → i < length nexts → (on : Bool) → on ≡ is_late_next g k (token_at ledger i) → (nexts' : List ℕ) → nexts' ≡ set nexts i (bit on) → ListedTo nexts' (i + 1)
-  one_listed nexts i l low inside on e nexts' h = record {
+  pub one_listed : (nexts : List ℕ) (i : ℕ) → ListedTo nexts i → i < n → (on : Bool) → on ≡ is_late_next g k (token_at ledger i) → (nexts' : List ℕ) → nexts' ≡ set nexts i (bit on) → get_or nexts' i 0 ≡ bit on → ListedTo nexts' (i + 1)
+  one_listed nexts i l low on e nexts' h at = record {
     low = omega (arith, l.low);
     high = omega arith;
     same = λ j u. other j (omega (arith, l.low)) ∙ l.same j u;
@@ -127,7 +127,7 @@ module _ (g : List Instruction) (k : ℕ) (ledger : List ℕ) (used n : ℕ) (ne
       other j z = rw h (get_or-set_other nexts i j (bit on) 0 z)
 
       go : (j : ℕ) → used ≤ j → j < i + 1 → (b : Bool) → eqb j i ≡ b → get_or nexts' j 0 ≡ bit (is_late_next g k (token_at ledger j))
-      go j d u true q = let same = eqb-true j i q in rw (h, same) (get_or-set_same nexts i (bit on) 0 inside ∙ ap bit e)
+      go j d u true q = let same = eqb-true j i q in rw same (at ∙ ap bit e)
       go j d u false q = let z = eqb-false j i q in other j z ∙ l.new j d (omega arith)
 
   pub all_listed : (nexts : List ℕ) (i : ℕ) → ListedTo nexts i → n ≤ i → NewListed g k ledger used n nexts₀ nexts

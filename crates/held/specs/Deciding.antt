@@ -9,7 +9,7 @@ use Rattle.machine.specs.Machine.{Token, on_option}
 use Rattle.rules.specs.Check.{any, instruction_at}
 use Rattle.rules.specs.Run.{token_held}
 use Rattle.rules.specs.Held.{stands_in, holds_back}
-use Rattle.store_flags.specs.Flags.{flags_of, Under, Counted}
+use Rattle.store_flags.specs.Flags.{Under}
 use Rattle.ending.specs.Endings.{proper_by}
 use Rattle.held.specs.Searching.{MarkedPast}
 use Rattle.store_flags.specs.Marks.{bit}
@@ -28,8 +28,7 @@ held_at g k flags ledger used i = eqb (get_or flags i 0) 1 && held_by g k (map t
 
 -- the held activities are those of the enabled that the rules hold back
 pub record HeldDecided (g : List Instruction) (k : ℕ) (flags held ledger : List ℕ) (used : ℕ) : Type 0 where
-  pub counted : Counted held
-  pub right : (i : ℕ) → get_or (flags_of held) i 0 ≡ bit (ltb i used && held_at g k (flags_of flags) ledger used i)
+  pub right : (i : ℕ) → get_or held i 0 ≡ bit (ltb i used && held_at g k flags ledger used i)
 
 -- ---- what is kept beside them: the records at NEXT that are not spent
 
@@ -79,13 +78,11 @@ pub record LookedAt (g : List Instruction) (ledger : List ℕ) (bound used i : �
 
 -- what the last call left, of records as they are now, and how many of them it had looked at
 pub record Carried (g : List Instruction) (tables ledger : List ℕ) (bound used : ℕ) (nexts held marks : List ℕ) : Type 0 where
-  pub counted_nexts : Counted nexts
-  pub counted_held : Counted held
-  pub clear : ClearFrom used (flags_of nexts)
-  pub under : Under (flags_of held) (flags_of nexts)
-  pub listed : (i : ℕ) → i < used → get_or (flags_of nexts) i 0 ≡ 0 → is_late_next g bound (token_at ledger i) ≡ true → is_spent_record (token_at ledger i).content ≡ true
+  pub clear : ClearFrom used nexts
+  pub under : Under held nexts
+  pub listed : (i : ℕ) → i < used → get_or nexts i 0 ≡ 0 → is_late_next g bound (token_at ledger i) ≡ true → is_spent_record (token_at ledger i).content ≡ true
   pub marked : MarkedPast tables ledger bound used marks
-  pub standing : AllStanding g ledger bound used (flags_of held) marks
+  pub standing : AllStanding g ledger bound used held marks
 
 pub record HeldKept (g : List Instruction) (tables flags ledger : List ℕ) (bound used : ℕ) (nexts held marks : List ℕ) : Type 0 where
   pub carried : Carried g tables ledger bound used nexts held marks

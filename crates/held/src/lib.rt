@@ -4,46 +4,26 @@
 // records that none needs to look at again.
 #![tactic(auto)]
 
-ghost use Rattle.std.specs.Prelude.{ℕ, ◌+◌, ◌/◌, ◌≤◌, ◌<◌, ◌≡◌, true, false, not, length, get_or, set, eqb, leb};
+ghost use Rattle.std.specs.Prelude.{ℕ, ◌+◌, ◌/◌, ◌≤◌, ◌<◌, ◌≡◌, true, false, length, get_or, set, eqb, leb};
 ghost use Rattle.record.specs.GraphRecords.{graph_of};
-ghost use Rattle.record.specs.Paths.{same_path};
 ghost use Rattle.record.specs.TokensAndTags.{tokens, token_at};
 ghost use Rattle.record.specs.Widths.{token_width};
 ghost use Rattle.machine.specs.Machine.{on_option};
 ghost use Rattle.rules.specs.Check.{instruction_at};
 ghost use Rattle.rules.specs.Held.{stands_in};
-ghost use Rattle.store_flags.specs.Flags.{flags_of, Under, Counted};
+ghost use Rattle.store_flags.specs.Flags.{Under, FlagList};
 ghost use Rattle.store_flags.specs.Marks.{bit};
 ghost use Rattle.abstraction.specs.Tables.{Arities};
 ghost use Rattle.held.specs.Searching.{later_of, Skips, PendingFrom, HolderFrom, Skipped, MarkedPast};
 ghost use Rattle.held.specs.Deciding.{is_late_next, held_at, ClearFrom, Listed, NewListed, Dropped, FlagsUnspent, HeldDecided, AllStanding, LookedAt, Carried, HeldKept, NoneNew, HeldStill, AllStill};
 
-use record::tag::{Left, Path, Tag};
+use record::tag::{Path, Tag};
 use record::{instruction, token};
 use store_enabled::Tables;
 use store_flags::Flags;
 
 // The code of NEXT.
 const NEXT: u8 = 7;
-
-fn wide(x: u8) -> usize
-    ensures { (result ≡ x) × (result < 256) }
-{
-    x as usize
-}
-
-fn wide16(x: u16) -> usize
-    ensures { (result ≡ x) × (result < 65536) }
-{
-    x as usize
-}
-
-fn differ(tag: Tag, path: Path) -> bool
-    ensures { result ≡ not (same_path tag.path path) }
-{
-    let own = tag.path;
-    !own.same(path)
-}
 
 // Whether a tag stands in a path, or in one entered from there, at an iteration of m - k or less: LEAVE finds one caller
 // after the other.
@@ -52,26 +32,19 @@ fn stands_old(tag: Tag, path: Path, bound: usize, m: usize) -> bool
     ensures { result ≡ on_option (stands_in path tag) false (λ j. leb (j + bound) m) }
 {
     let mut at = tag;
-    let mut apart = differ(at, path);
-    while apart {
-        let left = at.leave();
-        let Left::To {
-            site: _,
-            tag: caller,
-        } = left
-        else {
+    while at.path != path {
+        let Some(caller) = at.leave() else {
             return false;
         };
-        at = caller;
-        apart = differ(at, path);
+        at = caller.tag;
     }
-    wide(at.iteration) + bound <= m
+    at.iteration as usize + bound <= m
 }
 
 fn is_next(graph: &[u8], i: u16) -> bool
     ensures { result ≡ eqb (instruction_at (graph_of graph.now) i).code 7 }
 {
-    let at = wide16(i);
+    let at = i as usize;
     if at < graph.len() / instruction::WIDTH {
         graph[at * instruction::WIDTH] == NEXT
     } else {
@@ -81,16 +54,16 @@ fn is_next(graph: &[u8], i: u16) -> bool
 
 // Flag i is raised or lowered, whichever it was.
 fn put(held: &mut Flags, i: usize, on: bool)
-    requires { (i < 2048) × Counted held.old }
-    ensures held_after { flags_of held.new ≡ set (flags_of held.old) i (bit on) }
-    ensures counted { Counted held.new }
+    requires { i < 2048 }
+    ensures held_after { held.new ≡ set held.old i (bit on) }
+    ensures list { FlagList held.new }
 {
-    if store_flags::is_raised(held, i) {
+    if held.is_raised(i) {
         if !on {
-            store_flags::lower(held, i);
+            held.lower(i);
         }
     } else if on {
-        store_flags::raise(held, i);
+        held.raise(i);
     }
 }
 
@@ -111,7 +84,7 @@ fn later(at: usize, skip: u16) -> usize
     requires { at < 2048 }
     ensures { result ≡ later_of at skip }
 {
-    let end = wide16(skip);
+    let end = skip as usize;
     if end <= at { at + 1 } else { end }
 }
 
@@ -121,6 +94,7 @@ fn next_pending(tables: &Tables, ledger: &[u8], used: usize, marks: &[u16], from
     ensures { PendingFrom tables.now ledger.now used from result }
 {
     let mut at = from;
+    // No `for`: an iteration passes all the records that are marked as proper.
     while at < used {
         if !ending::proper_at(tables, ledger, at) {
             return at;
@@ -155,6 +129,7 @@ fn first_holder(
     ensures skipped { Skipped tables.now ledger.now used marks.old marks.new }
 {
     let mut at = from;
+    // No `for`: an iteration passes all the records before the one that it finds.
     while at < used {
         let pending = next_pending(tables, ledger, used, marks, at);
         mark(marks, at + SKIP, pending);
@@ -188,13 +163,12 @@ fn holds_now(
         × (used ≤ 2048)
         × (0 < bound)
         × (bound < 65536)
-        × Counted flags.now
         × MarkedPast tables.now ledger.now bound used marks.old }
-    ensures value { result ≡ held_at (graph_of graph.now) bound (flags_of flags.now) ledger.now used i }
+    ensures value { result ≡ held_at (graph_of graph.now) bound flags.now ledger.now used i }
     ensures marked_past { MarkedPast tables.now ledger.now bound used marks.new }
     ensures looked_at { LookedAt (graph_of graph.now) ledger.now bound used i result marks.old marks.new }
 {
-    if !store_flags::is_raised(flags, i) {
+    if !flags.is_raised(i) {
         return false;
     }
     let t = token::token_at(ledger, i);
@@ -203,8 +177,8 @@ fn holds_now(
     if !is_next(graph, tag.instruction) {
         return false;
     }
-    let m = wide(tag.iteration) + 1;
-    let from = wide16(marks[i]);
+    let m = tag.iteration as usize + 1;
+    let from = marks[i] as usize;
     let holder = first_holder(tables, ledger, used, marks, path, bound, m, from);
     mark(marks, i, holder);
     holder < used
@@ -227,25 +201,20 @@ fn decide(
         × (used ≤ 2048)
         × (0 < bound)
         × (bound < 65536)
-        × Counted flags.now
-        × Counted nexts.now
-        × Counted held.old
-        × ClearFrom used (flags_of nexts.now)
-        × Under (flags_of held.old) (flags_of nexts.now)
+        × ClearFrom used nexts.now
+        × Under held.old nexts.now
         × MarkedPast tables.now ledger.now bound used marks.old
-        × Listed (graph_of graph.now) bound (flags_of flags.now) (flags_of nexts.now) ledger.now used
-        × AllStanding (graph_of graph.now) ledger.now bound used (flags_of held.old) marks.old }
+        × Listed (graph_of graph.now) bound flags.now nexts.now ledger.now used
+        × AllStanding (graph_of graph.now) ledger.now bound used held.old marks.old }
     ensures held_decided { HeldDecided (graph_of graph.now) bound flags.now held.new ledger.now used }
-    ensures under { Under (flags_of held.new) (flags_of nexts.now) × MarkedPast tables.now ledger.now bound used marks.new }
-    ensures all_standing { AllStanding (graph_of graph.now) ledger.now bound used (flags_of held.new) marks.new }
+    ensures under { Under held.new nexts.now × MarkedPast tables.now ledger.now bound used marks.new }
+    ensures all_standing { AllStanding (graph_of graph.now) ledger.now bound used held.new marks.new }
 {
-    let n = store_flags::count(nexts);
-    let mut k = 0;
-    while k < n {
-        let i = store_flags::select(nexts, k);
+    let n = nexts.count();
+    for k in 0..n {
+        let i = nexts.select(k);
         let on = holds_now(graph, tables, flags, ledger, used, bound, marks, i);
         put(held, i, on);
-        k += 1;
     }
 }
 
@@ -257,7 +226,7 @@ fn at_next(graph: &[u8], ledger: &[u8], bound: usize, i: usize) -> bool
     let t = token::token_at(ledger, i);
     let tag = t.tag;
     if is_next(graph, tag.instruction) {
-        bound <= wide(tag.iteration) + 1
+        bound <= tag.iteration as usize + 1
     } else {
         false
     }
@@ -265,34 +234,29 @@ fn at_next(graph: &[u8], ledger: &[u8], bound: usize, i: usize) -> bool
 
 // A record that is not listed is, if it has to be.
 fn list_one(graph: &[u8], ledger: &[u8], bound: usize, i: usize, nexts: &mut Flags)
-    requires { (i < length ledger.now / token_width) × (i < 2048) × Counted nexts.old × (get_or (flags_of nexts.old) i 0 ≡ 0) }
-    ensures nexts_after { flags_of nexts.new ≡ set (flags_of nexts.old) i (bit (is_late_next (graph_of graph.now) bound (token_at ledger.now i))) }
-    ensures counted { Counted nexts.new }
+    requires { (i < length ledger.now / token_width) × (i < 2048) × (get_or nexts.old i 0 ≡ 0) }
+    ensures nexts_after { nexts.new ≡ set nexts.old i (bit (is_late_next (graph_of graph.now) bound (token_at ledger.now i))) }
+    ensures at { get_or nexts.new i 0 ≡ bit (is_late_next (graph_of graph.now) bound (token_at ledger.now i)) }
 {
     if at_next(graph, ledger, bound, i) {
-        store_flags::raise(nexts, i);
+        nexts.raise(i);
     }
 }
 
 // The records that came since, from `used` on: those at NEXT are listed.
 fn list_new(graph: &[u8], ledger: &[u8], used: usize, n: usize, bound: usize, nexts: &mut Flags)
-    requires { (used ≤ n) × (n ≤ length ledger.now / token_width) × (n ≤ 2048) × Counted nexts.old × ClearFrom used (flags_of nexts.old) }
-    ensures { Counted nexts.new × NewListed (graph_of graph.now) bound ledger.now used n (flags_of nexts.old) (flags_of nexts.new) }
+    requires { (used ≤ n) × (n ≤ length ledger.now / token_width) × (n ≤ 2048) × ClearFrom used nexts.old }
+    ensures { NewListed (graph_of graph.now) bound ledger.now used n nexts.old nexts.new }
 {
-    let mut i = used;
-    while i < n {
+    for i in used..n {
         list_one(graph, ledger, bound, i, nexts);
-        i += 1;
     }
 }
 
 // A record below n that is spent is listed no more.
 fn drop_spent(ledger: &[u8], n: usize, place: usize, nexts: &mut Flags, held: &mut Flags)
-    requires { (n ≤ length ledger.now / token_width) × (n ≤ 2048) × Counted nexts.old × Counted held.old }
-    ensures { Counted nexts.new
-        × Counted held.new
-        × Dropped ledger.now place (flags_of nexts.old) (flags_of held.old) (flags_of nexts.new)
-        (flags_of held.new) }
+    requires { (n ≤ length ledger.now / token_width) × (n ≤ 2048) }
+    ensures { Dropped ledger.now place nexts.old held.old nexts.new held.new }
 {
     if n <= place {
         return;
@@ -311,23 +275,21 @@ fn none_new(graph: &[u8], ledger: &[u8], used: usize, n: usize, bound: usize) ->
     requires { n ≤ length ledger.now / token_width }
     ensures { result ≡ true → NoneNew (graph_of graph.now) bound ledger.now used n }
 {
-    let mut i = used;
-    while i < n {
+    for i in used..n {
         if at_next(graph, ledger, bound, i) {
             return false;
         }
-        i += 1;
     }
     true
 }
 
 // Whether an activity is enabled, and the record that its search stands at is still to hold it back.
 fn holds_still(tables: &Tables, flags: &Flags, ledger: &[u8], marks: &[u16], i: usize) -> bool
-    requires { (i < 2048) × Counted flags.now × (length marks.now ≡ 4096) × (get_or marks.now i 0 < length ledger.now / token_width) }
-    ensures { result ≡ true → HeldStill tables.now (flags_of flags.now) ledger.now marks.now i }
+    requires { (i < 2048) × (length marks.now ≡ 4096) × (get_or marks.now i 0 < length ledger.now / token_width) }
+    ensures { result ≡ true → HeldStill tables.now flags.now ledger.now marks.now i }
 {
-    if store_flags::is_raised(flags, i) {
-        !ending::proper_at(tables, ledger, wide16(marks[i]))
+    if flags.is_raised(i) {
+        !ending::proper_at(tables, ledger, marks[i] as usize)
     } else {
         false
     }
@@ -342,26 +304,20 @@ fn all_still(
     held: &Flags,
     marks: &[u16],
 ) -> bool
-    requires { Counted flags.now
-        × Counted nexts.now
-        × Counted held.now
-        × (length marks.now ≡ 4096)
-        × ((i : ℕ) → get_or (flags_of held.now) i 0 ≡ 1 → get_or marks.now i 0 < length ledger.now / token_width) }
+    requires { (length marks.now ≡ 4096)
+        × ((i : ℕ) → get_or held.now i 0 ≡ 1 → get_or marks.now i 0 < length ledger.now / token_width) }
     ensures { result ≡ true
-        → AllStill tables.now (flags_of flags.now) ledger.now (flags_of nexts.now)
-        (flags_of held.now) marks.now }
+        → AllStill tables.now flags.now ledger.now nexts.now held.now marks.now }
 {
-    let n = store_flags::count(nexts);
-    let mut k = 0;
-    while k < n {
-        let i = store_flags::select(nexts, k);
-        if !store_flags::is_raised(held, i) {
+    let n = nexts.count();
+    for k in 0..n {
+        let i = nexts.select(k);
+        if !held.is_raised(i) {
             return false;
         }
         if !holds_still(tables, flags, ledger, marks, i) {
             return false;
         }
-        k += 1;
     }
     true
 }
@@ -386,17 +342,15 @@ pub fn calm(
         × (n ≤ 2048)
         × (0 < bound)
         × (bound < 65536)
-        × Counted flags.now
-        × FlagsUnspent (flags_of flags.now) ledger.now n
+        × FlagsUnspent flags.now ledger.now n
         × Carried (graph_of graph.now) tables.now ledger.now bound used nexts.now held.now marks.now }
     ensures { result ≡ true
-        → HeldKept (graph_of graph.now) tables.now flags.now ledger.now bound n nexts.now
-        held.now marks.now }
+        → HeldKept (graph_of graph.now) tables.now flags.now ledger.now bound n nexts.now held.now marks.now }
 {
     if !none_new(graph, ledger, used, n, bound) {
         return false;
     }
-    if store_flags::is_empty(nexts) {
+    if nexts.is_empty() {
         return true;
     }
     all_still(tables, flags, ledger, nexts, held, marks)
@@ -425,8 +379,7 @@ pub fn follow(
         × (n ≤ 2048)
         × (0 < bound)
         × (bound < 65536)
-        × Counted flags.now
-        × FlagsUnspent (flags_of flags.now) ledger.now n
+        × FlagsUnspent flags.now ledger.now n
         × Carried (graph_of graph.now) tables.now ledger.now bound used nexts.old held.old marks.old }
     ensures { HeldKept (graph_of graph.now) tables.now flags.now ledger.now bound n nexts.new held.new marks.new }
 {

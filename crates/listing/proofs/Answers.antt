@@ -9,9 +9,8 @@ use lib.ListN.{length}
 use borrow.Author.Tests.{eqb-true, leb-true, eq-eqb, le-leb}
 use Rattle.record.specs.TokensAndTags.{most_tokens}
 use Rattle.record.specs.Widths.{token_width}
-use Rattle.listing.specs.Listing.{list_accepted, list_answer, listed_out, listing, listed_number}
-use Rattle.listing.specs.declared.Listed.{Listed}
-use Rattle.listing.specs.declared.Listed.TheVariants.{Done, BadStore}
+use Rattle.std.specs.Prelude.{Ok}
+use Rattle.listing.specs.Listing.{list_accepted, list_result, list_answer, listed_out, listing}
 use Rattle.listing.proofs.Lists.{both, and_true}
 
 -- ---- the lengths
@@ -32,32 +31,26 @@ pub accepting : (ledger out : ℕ) → Lengths ledger out → list_accepted ledg
 unfolding list_accepted
 accepting ledger out l = rw (eq-eqb ledger out l.same, eq-eqb (ledger % token_width) 0 l.whole, le-leb (ledger / token_width) most_tokens l.few)
 
--- ---- what `list` returns, by its number
-
-pub is_done : (r : Listed) → listed_number r ≡ 0 → r ≡ Done
-is_done Done e = refl
-is_done BadStore e = absurd (omega arith)
-
-pub is_bad_store : (r : Listed) → listed_number r ≡ 7 → r ≡ BadStore
-is_bad_store Done e = absurd (omega arith)
-is_bad_store BadStore e = refl
-
 -- ---- the answer and the output
 
 module _ (ledger out : List ℕ) where
+  pub result_done : Lengths (length ledger) (length out) → list_result ledger out ≡ Ok tt
+  unfolding list_result
+  result_done l = rw (accepting (length ledger) (length out) l)
+
   pub answers_done : Lengths (length ledger) (length out) → (list_answer ledger out ≡ 0) × (listed_out ledger out ≡ listing ledger)
-  unfolding list_answer listed_out
+  unfolding list_answer list_result listed_out
   answers_done l = let e = accepting (length ledger) (length out) l in (rw e, rw e)
 
   pub done : list_answer ledger out ≡ 0 → Lengths (length ledger) (length out) × (listed_out ledger out ≡ listing ledger)
-  unfolding list_answer listed_out
+  unfolding list_answer list_result listed_out
   done h =
       both (list_accepted (length ledger) (length out))
       (λ p. (lengths (length ledger) (length out) p, rw p))
       (λ p. let z : ◌≡◌ {A = ℕ} 7 0 = rw p at h in absurd (omega arith))
 
   pub refused : list_answer ledger out ≡ 7 → listed_out ledger out ≡ out
-  unfolding list_answer listed_out
+  unfolding list_answer list_result listed_out
   refused h =
       both (list_accepted (length ledger) (length out))
       (λ p. let z : ◌≡◌ {A = ℕ} 0 7 = rw p at h in absurd (omega arith))

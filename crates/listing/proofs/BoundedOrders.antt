@@ -1,4 +1,5 @@
 -- R-9 in bytes, proved: a run with a bound that completes, or hangs with no held activity left, ends as every order does, in every byte that demand 3 compares. Assumes nothing.
+use Rattle.std.proofs.Common.{Ok, Err}
 use Prim.Native.Nat.{ℕ, ◌/◌}
 use mathlib.Core.Path.{◌≡◌, refl, sym, ap, subst, ◌∙◌}
 use mathlib.Core.List.{List}
@@ -9,9 +10,7 @@ use Rattle.record.specs.TokensAndTags.{most_tokens, capacity_of}
 use Rattle.record.specs.Widths.{token_width, cell_width}
 use Rattle.machine.specs.Orders.{Quiescent, Refused}
 use Rattle.rules.specs.declared.answer.Answer.{Answer}
-use Rattle.rules.specs.declared.answer.Checked.{Checked}
-use Rattle.rules.specs.declared.answer.Checked.TheVariants.{Passed, Failed}
-use Rattle.rules.specs.Check.{check_graph, check_stores, most_cells}
+use Rattle.rules.specs.Check.{check_graph, check_stores, most_cells, Checked}
 use Rattle.rules.specs.Run.{Result, Ran, result, unless_failed}
 use Rattle.rules.specs.Log.{LogResult, LogRan}
 use Rattle.rules.specs.Runs.{LentToRun, LeftByRun, RanOn, outcome_in}
@@ -33,8 +32,8 @@ unfolding bounded unless_failed check_bounded and_bound
 bounded_stores graph arrays inputs picks budget k ledger cells rests = go (check_bounded graph arrays inputs picks k ledger cells) refl
   where
     go : (c : Checked) → check_bounded graph arrays inputs picks k ledger cells ≡ c → Whole (length inputs) (length picks) ledger cells
-    go (Failed r p) e = absurd (rw e at rests)
-    go Passed e =
+    go (Err fault) e = absurd (rw e at rests)
+    go (Ok _) e =
         let a = (and_then_passed (check_graph graph) _ e).1 in
         let b = (and_then_passed (and_bound (check_stores (length inputs) (length picks) ledger cells) k) _ a).0 in
         stores_whole (length inputs) (length picks) ledger cells (and_then_passed (check_stores (length inputs) (length picks) ledger cells) _ b).0

@@ -1,11 +1,11 @@
 -- 02, R-13, proved in bytes: any two runs from one saved state agree as any two from one list of inputs do. Assumes nothing.
+use Rattle.std.proofs.Common.{Ok}
 use Prim.Native.Nat.{ℕ}
 use mathlib.Core.Path.{◌≡◌, sym, subst}
 use mathlib.Core.List.{List}
 use lib.ListN.{length}
 use Rattle.number.specs.Number.{Bytes}
 use Rattle.machine.specs.Orders.{Quiescent}
-use Rattle.rules.specs.declared.answer.Checked.TheVariants.{Passed}
 use Rattle.rules.specs.Check.{check_graph}
 use Rattle.rules.specs.Run.{Result, refused_at_once, ran_to}
 use Rattle.rules.specs.Orders as Rules
@@ -32,7 +32,7 @@ demand3_from graph arrays firings n graph_bytes l m ledger_bytes otherBytes cell
     agreed : Rules.ResultsAgree (result_of l) (result_of m)
     agreed =
         subst (λ (c : List ℕ). Rules.ResultsAgree (result_of l) (carried graph arrays m.picks 2048 m.ledger c firings n)) one.cells
-        (orders_from graph arrays l.picks m.picks l.ledger m.ledger l.cells firings n a (subst (λ (c : List ℕ). check_graph graph ≡ Passed → Rules.Allowed m.picks (length m.ledger) (length c)) (sym one.cells) b) one.capacity one.records)
+        (orders_from graph arrays l.picks m.picks l.ledger m.ledger l.cells firings n a (subst (λ (c : List ℕ). check_graph graph ≡ Ok tt → Rules.Allowed m.picks (length m.ledger) (length c)) (sym one.cells) b) one.capacity one.records)
 
     holds : (k : LentToRun) → Bytes k.ledger → Bytes k.cells → Quiescent (Rules.result_outcome (result_of k)) → Held (result_of k) k.cells
     holds k lb cb c =

@@ -1,9 +1,8 @@
 -- 02, R-13, in bytes: "For any state taken, the same orders theorem applies from there, with that state in the place of the inputs." One claim about two runs from one
 -- state, for every two lists of picks. It speaks of what `carry_on` (crate engine) and `list` promise. The statement; it is proved in proofs/SavedOrders. Assumes nothing.
-use Rattle.std.specs.Prelude.{ℕ, ◌*◌, ◌≡◌, List, length, take}
+use Rattle.std.specs.Prelude.{ℕ, ◌*◌, ◌≡◌, List, length, take, Ok}
 use Rattle.number.specs.Number.{Bytes}
 use Rattle.record.specs.Widths.{token_width}
-use Rattle.rules.specs.declared.answer.Checked.TheVariants.{Passed}
 use Rattle.rules.specs.Check.{check_graph}
 use Rattle.rules.specs.Runs.{LentToRun, LeftByRun}
 use Rattle.rules.specs.Orders.{Allowed}
@@ -16,7 +15,7 @@ CarriedTo graph arrays budget firings n l x = CarriedOn graph arrays l.picks bud
 
 -- neither run is refused by 7; where the graph fails its check, lengths do not count
 abbrev pub NotBadStore : (graph : List ℕ) → LentToRun → Type 0
-NotBadStore graph l = check_graph graph ≡ Passed → Allowed l.picks (length l.ledger) (length l.cells)
+NotBadStore graph l = check_graph graph ≡ Ok tt → Allowed l.picks (length l.ledger) (length l.cells)
 
 -- both are lent one state: equal records of the tokens, equal cells, and equal room. What stands behind the records may differ
 pub record OneState (tokens : ℕ) (l m : LentToRun) : Type 0 where

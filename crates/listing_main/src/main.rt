@@ -6,33 +6,28 @@
 ghost use Rattle.std.specs.Prelude.{◌*◌, ◌≤◌};
 ghost use Rattle.record.specs.Widths.{token_width};
 
-use console::{read_full, say, say_hex};
-use listing::Listed;
+use console::read_full;
 use record::token;
+use rules::answer;
+use rules::answer::Refusal;
 use std::io;
 
 fn print_bytes(rt: &impl Print, s: &[u8]) -> io::Result<()> {
-    let mut i = 0;
-    while i < s.len() {
-        say_hex(rt, s[i])?;
-        i += 1;
-        if i % token::WIDTH == 0 || i == s.len() {
-            say(rt, b"\n")?;
+    for record in s.chunks(token::WIDTH) {
+        for byte in record {
+            print!(rt; "{byte:02x}")?;
         }
+        println!(rt)?;
     }
     Ok(())
 }
 
-fn print_answer(rt: &impl Print, answer: Listed) -> io::Result<()> {
-    match answer {
-        Listed::Done => {
-            say(rt, b"0\n")?;
-        }
-        Listed::BadStore => {
-            say(rt, b"7\n")?;
-        }
-    }
-    Ok(())
+fn print_answer(rt: &impl Print, answer: Result<(), Refusal>) -> io::Result<()> {
+    let number = match answer {
+        Ok(()) => 0,
+        Err(refusal) => answer::number(refusal),
+    };
+    println!(rt; "{number}")
 }
 
 fn print_listing(rt: &impl Print, ledger: &[u8], out: &mut [u8]) -> io::Result<()> {

@@ -10,7 +10,7 @@ ghost use Rattle.load.specs.Loaded.{ProperArrival, Alone, Loaded};
 
 use record::tag::Tag;
 use record::token;
-use store_chains::{Links, Sought};
+use store_chains::Links;
 use store_enabled::Tables;
 use store_flags::Flags;
 
@@ -18,11 +18,7 @@ use store_flags::Flags;
 pub fn clear(cells: &mut [u8])
     ensures { cells.new ≡ replicate (length cells.old) 0 }
 {
-    let mut i = 0;
-    while i < cells.len() {
-        cells[i] = 0;
-        i += 1;
-    }
+    cells.fill(0);
 }
 
 // The input tokens arrive in their order in an empty ledger. The answer is how many they are. They are written here and then entered,
@@ -42,19 +38,17 @@ pub fn inputs(
     ensures { Loaded tables.now links.new flags.new ledger.old ledger.new inputs.now result }
 {
     let n = inputs.len() / token::WIDTH;
-    let mut i = 0;
-    while i < n {
+    for i in 0..n {
         let t = token::token_at(inputs, i);
         token::put_token(ledger, i, t);
         // 01, "Tokens and tags": an input carries the root tag, of which no bucket has to be worked out.
         let own = t.tag;
         let tag = Tag::root(own.instruction);
-        let Sought::Free(slot) = store::seek(links, ledger, i, tag, t.port) else {
+        let Some(slot) = store::seek(links, ledger, i, tag, t.port) else {
             // No two inputs stand on one port of a tag.
             return i;
         };
         store::enter(tables, links, flags, ledger, i, t, slot);
-        i += 1;
     }
-    i
+    n
 }

@@ -26,6 +26,7 @@ pub struct Ended {
     pub held: usize,
 }
 
+// By `check`: with `==` of slices the proof of `same_machine` did not close.
 fn same(a: &[u8], b: &[u8]) -> bool
     ensures { result ≡ same_bytes a.now b.now }
 {

@@ -18,6 +18,15 @@ use Rattle.listing.proofs.Answers.{Lengths, answers_done}
 use Rattle.listing.proofs.Laws.{length_listing}
 use Rattle.printing.specs.PrintedRun.{ledger_bytes, cell_bytes, run_of, text_of_run, printed_run}
 
+-- the used records and as much of `sorted` are what `list` takes
+pub used_lengths : (ledger sorted : List ℕ) (t : ℕ) → t ≤ most_tokens → t * token_width ≤ length ledger → t * token_width ≤ length sorted
+    → Lengths (length (take (t * token_width - 0) ledger)) (length (take (t * token_width - 0) sorted))
+used_lengths ledger sorted t few fits room =
+    let all : t * token_width - 0 ≡ t * token_width = omega arith in
+    let size : length (take (t * token_width - 0) ledger) ≡ t * token_width = rw all (length-take-le _ ledger fits) in
+    let room' : length (take (t * token_width - 0) sorted) ≡ t * token_width = rw all (length-take-le _ sorted room) in
+    record { same = omega arith; whole = omega arith; few = omega arith }
+
 -- x is what `list` leaves in the start of `sorted`, with the used records lent
 pub listed : (ledger sorted x rest : List ℕ) (t : ℕ) → t ≤ most_tokens → t * token_width ≤ length ledger → t * token_width ≤ length sorted
     → x ≡ listed_out (take (t * token_width - 0) ledger) (take (t * token_width - 0) sorted) → take (t * token_width - 0) (x ++ rest) ≡ listing (take (t * token_width) ledger)
@@ -26,8 +35,7 @@ listed ledger sorted x rest t few fits room e =
     let all : n - 0 ≡ n = omega arith in
     let used = take n ledger in
     let size : length used ≡ n = length-take-le n ledger fits in
-    let lengths : Lengths (length used) (length (take n sorted)) = record { same = omega (arith, length-take-le n sorted room); whole = omega arith; few = omega arith } in
-    let done : x ≡ listing used = e ∙ ap (λ (k : ℕ). listed_out (take k ledger) (take k sorted)) all ∙ (answers_done used (take n sorted) lengths).1 in
+    let done : x ≡ listing used = e ∙ (answers_done _ _ (used_lengths ledger sorted t few fits room)).1 ∙ ap (λ (k : ℕ). listing (take k ledger)) all in
     let long : length x ≡ n = ap length done ∙ length_listing used (omega arith) ∙ size in
     ap (λ (k : ℕ). take k (x ++ rest)) all ∙ take_at x rest n long ∙ done
 

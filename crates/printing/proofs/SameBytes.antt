@@ -22,7 +22,7 @@ use Rattle.rules.proofs.Outcomes.{outcome_said}
 use Rattle.listing.specs.Demand3.{NotForOthers, used_bytes, AlikeBytes}
 use Rattle.listing.proofs.Answers.{done}
 use Rattle.listing.proofs.Demand3.{demand3}
-use Rattle.text.specs.declared.Printed.TheVariants.{Done, TooSmall}
+use Rattle.std.specs.Prelude.{Ok, Err}
 use Rattle.text.specs.Text.{printed_of, printed_out}
 use Rattle.text.proofs.Laws.{same_text}
 use Rattle.printing.specs.PrintedRun.{ledger_bytes, cell_bytes, run_of, text_left, printed_run}
@@ -30,13 +30,13 @@ use Rattle.printing.specs.SameBytes.{OrdersPrintAlike}
 
 -- ---- a text in an output
 
-printed_bytes : (text out : List ℕ) (n : ℕ) → printed_of text out ≡ Done n → take n (printed_out text out) ≡ text
+printed_bytes : (text out : List ℕ) (n : ℕ) → printed_of text out ≡ Ok n → take n (printed_out text out) ≡ text
 unfolding printed_of printed_out
-printed_bytes text out n e = go (leb (length text) (length out)) refl e
+printed_bytes text out n e = go (leb (length text) (length out)) refl
   where
-    go : (b : Bool) → leb (length text) (length out) ≡ b → cond b (Done (length text)) TooSmall ≡ Done n → take n (cond (leb (length text) (length out)) (text ++ drop (length text) out) out) ≡ text
-    go true p q = let size : length text ≡ n = cc in rw p (take_at text (drop (length text) out) n size)
-    go false p q = let z : ◌≡◌ {A = ℕ} 0 1 = cc in absurd (omega arith)
+    go : (b : Bool) → leb (length text) (length out) ≡ b → take n (cond (leb (length text) (length out)) (text ++ drop (length text) out) out) ≡ text
+    go true p = let q = rw p at e in let size : length text ≡ n = cc in rw p (take_at text (drop (length text) out) n size)
+    go false p = let q = rw p at e in absurd (cc)
 
 same_answer : (text out out' : List ℕ) → length out ≡ length out' → printed_of text out ≡ printed_of text out'
 unfolding printed_of

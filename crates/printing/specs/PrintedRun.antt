@@ -1,4 +1,5 @@
 -- 01, "The printed listing": what the printing program prints, for all bytes of `graph`, `arrays`, `inputs` and `picks`. Assumes nothing.
+use Rattle.std.specs.Prelude as Std
 use Rattle.std.specs.Prelude.{ℕ, ◌*◌, ◌≤◌, ◌≡◌, List, length, take, replicate}
 use Rattle.number.specs.Number.{Bytes}
 use Rattle.record.specs.TokensAndTags.{most_tokens}
@@ -7,7 +8,7 @@ use Rattle.rules.specs.declared.answer.Answer.{Answer}
 use Rattle.rules.specs.Check.{most_cells}
 use Rattle.rules.specs.Run.{Result, result, answer, ledger_after, cells_after}
 use Rattle.listing.specs.Listing.{listing}
-use Rattle.text.specs.declared.Printed.{Printed}
+use Rattle.text.specs.declared.TooSmall.{TooSmall}
 use Rattle.text.specs.Text.{printed, printed_of, printed_out}
 
 -- "with 2,048 records, 1,024 cells, budget 2,048"
@@ -32,7 +33,7 @@ unfoldable pub printed_run : (graph arrays inputs picks : List ℕ) → List ℕ
 printed_run graph arrays inputs picks = text_left (run_of graph arrays inputs picks)
 
 -- what `print_run` promises: how many bytes it wrote, and the end contents of its output
-pub record PrintedRun (graph arrays inputs picks : List ℕ) (r : Printed) (out out' : List ℕ) : Type 0 where
+pub record PrintedRun (graph arrays inputs picks : List ℕ) (r : Std.Result ℕ TooSmall) (out out' : List ℕ) : Type 0 where
   pub answered : r ≡ printed_of (printed_run graph arrays inputs picks) out
   pub out_left : out' ≡ printed_out (printed_run graph arrays inputs picks) out
 

@@ -8,7 +8,7 @@ ghost use Rattle.printing.specs.PrintedRun.{text_of_run, PrintedRun};
 
 use record::{cell, token};
 use rules::answer::Answer;
-use text::Printed;
+use text::TooSmall;
 
 const BUDGET: u16 = token::MOST as u16;
 
@@ -20,13 +20,13 @@ fn print_left(
     cells: &[u8],
     sorted: &mut [u8],
     out: &mut [u8],
-) -> Printed
+) -> Result<usize, TooSmall>
     requires { (answer.tokens ≤ most_tokens) × (answer.tokens ≤ capacity_of (length ledger.now)) × (length sorted.old ≡ length ledger.now) }
     ensures value { result ≡ printed_of (text_of_run answer ledger.now cells.now) out.old }
     ensures out_after { out.new ≡ printed_out (text_of_run answer ledger.now cells.now) out.old }
 {
     let used = answer.tokens * token::WIDTH;
-    listing::list(&ledger[0..used], &mut sorted[0..used]);
+    listing::list(&ledger[0..used], &mut sorted[0..used]).unwrap();
     text::print(answer, &sorted[0..used], cells, out)
 }
 
@@ -38,7 +38,7 @@ pub fn print_run(
     inputs: &[u8],
     picks: &[u8],
     out: &mut [u8],
-) -> Printed
+) -> Result<usize, TooSmall>
     ensures { PrintedRun graph.now arrays.now inputs.now picks.now result out.old out.new }
 {
     let mut ledger = [0u8; token::MOST * token::WIDTH];

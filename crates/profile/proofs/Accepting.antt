@@ -1,5 +1,6 @@
 -- A profile that passed its checks: it may begin (`accepted_by`), all its tokens are live then (`all_live`), and its end is 02's, said of the buffers as lent
 -- (`as_profile`). Assumes nothing.
+use Rattle.std.proofs.Common.{Ok}
 use Prim.Native.Nat.{ℕ, ◌/◌}
 use mathlib.Core.Path.{◌≡◌, refl, sym, ap, ◌∙◌, subst}
 use mathlib.Core.List.{List, [], ◌∷◌}
@@ -20,7 +21,6 @@ use Rattle.machine.proofs.Steps.{every_profile}
 use Rattle.rules.specs.declared.answer.Refusal.{Refusal}
 use Rattle.rules.specs.declared.answer.Refusal.TheVariants.{ProfileFull}
 use Rattle.rules.specs.declared.answer.Profiled.{Profiled}
-use Rattle.rules.specs.declared.answer.Checked.TheVariants.{Passed}
 use Rattle.rules.specs.Check.{most_cells}
 use Rattle.rules.specs.InstructionSet.{machine_of}
 use Rattle.rules.specs.Run.{first_state}
@@ -34,7 +34,7 @@ use Rattle.start.proofs.Starting.{from_start, as_lent}
 use Rattle.profile.specs.Steps.{unspent_at, profile_from, ProfiledTo}
 use Rattle.profile.proofs.Stepping.{held_size}
 
-pub accepted_by : (graph arrays inputs : List ℕ) (ledger cells lent : ℕ) → check_profile graph arrays inputs ledger cells lent ≡ Passed → Accepted graph arrays inputs ledger cells
+pub accepted_by : (graph arrays inputs : List ℕ) (ledger cells lent : ℕ) → check_profile graph arrays inputs ledger cells lent ≡ Ok tt → Accepted graph arrays inputs ledger cells
 accepted_by graph arrays inputs ledger cells lent e =
     let (w, (named, a)) = wholes graph arrays inputs ledger cells lent e in
     record {
@@ -54,7 +54,7 @@ all_unspent : (M : Machine) (ts : Ledger M) → Orders.AllLive M ts → ((x : Co
 all_unspent M [] a one = refl
 all_unspent M (t ∷ ts) a one = omega (arith, one t.content a.0, all_unspent M ts a.1 one)
 
-module _ (graph arrays inputs ledger cells : List ℕ) (lent : ℕ) (e : check_profile graph arrays inputs (length ledger) (length cells) lent ≡ Passed)
+module _ (graph arrays inputs ledger cells : List ℕ) (lent : ℕ) (e : check_profile graph arrays inputs (length ledger) (length cells) lent ≡ Ok tt)
     {tables links flags ledger₁ cells₁ : List ℕ} {used : ℕ} (b : Begun graph arrays inputs tables links flags ledger ledger₁ cells cells₁ used) where
   abbrev M : Machine
   M = machine_lent graph arrays ledger cells

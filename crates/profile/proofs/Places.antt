@@ -6,29 +6,26 @@ use native.Mathlib.Omega.{arith}
 use native.Mathlib.Decide.{dec_le}
 use lib.ListN.{length, get_or, set, take, drop, take-append-drop}
 use lib.Seq.{take_all, get_or-set_same, get_or-set_other, get_or-drop, drop-drop, length-take-le, set-append_left}
-use Rattle.store_flags.specs.Flags.{places, place, ones, in_word, flags_of, Counted}
+use Rattle.store_flags.specs.Flags.{places, place, ones, in_word, FlagList}
 use Rattle.store_flags.proofs.Laws.{Binary, ones_le, ones_places, ones_split, ones_append, ones_set, ones_past, place_skip, place_left, place_right, place_rest, place_lt, place_one}
 use Rattle.store_flags.proofs.Digits.{word_size, word_binary}
-use Rattle.store_flags.proofs.Words.{words_size, words_word}
 
 -- there are 2,048 at most
-pub places_few : (flags : List ℕ) → Counted flags → length (places (flags_of flags)) ≤ 2048
+pub places_few : (flags : List ℕ) → FlagList flags → length (places flags) ≤ 2048
 places_few flags w =
-    let fs = flags_of flags in
-    let t = w.tallied in
-    let all : ones (take 2048 fs) ≡ ones fs = ap ones (take_all 2048 fs (omega (arith, t.size))) in
-    omega (arith, ones_places 0 fs t.binary, ones_le 2048 fs t.binary, all)
+    let all : ones (take 2048 flags) ≡ ones flags = ap ones (take_all 2048 flags (omega (arith, w.size))) in
+    omega (arith, ones_places 0 flags w.binary, ones_le 2048 flags w.binary, all)
 
 -- ---- the ones that are left: those of a word's rest, and of the words behind it
 
 abbrev left : (flags : List ℕ) → (b rest : ℕ) → List ℕ
-left flags b rest = in_word rest ++ drop (b * 64 + 64) (flags_of flags)
+left flags b rest = in_word rest ++ drop (b * 64 + 64) flags
 
 -- all ones but the first k are left, each at its place
 pub record Left (flags : List ℕ) (b rest k : ℕ) : Type 0 where
   pub word : b < 32
-  pub all : ones (left flags b rest) + k ≡ ones (flags_of flags)
-  pub at : (j : ℕ) → j < ones (left flags b rest) → place (k + j) (flags_of flags) ≡ b * 64 + place j (left flags b rest)
+  pub all : ones (left flags b rest) + k ≡ ones flags
+  pub at : (j : ℕ) → j < ones (left flags b rest) → place (k + j) flags ≡ b * 64 + place j (left flags b rest)
 
 none_there : (l : List ℕ) → length l ≤ place 0 l → ones l ≡ 0
 none_there l h = go (dec_le 1 (ones l))
@@ -62,22 +59,19 @@ binary_append [] ys a b i = b i
 binary_append (x ∷ xs) ys a b zero = a zero
 binary_append (x ∷ xs) ys a b (suc i) = binary_append xs ys (λ j. a (suc j)) b i
 
-module _ {flags : List ℕ} (w : Counted flags) where
-  abbrev F : List ℕ
-  F = flags_of flags
-
-  whole_word : (b : ℕ) → b < 32 → left flags b (get_or flags b 0) ≡ drop (b * 64) F
-  whole_word b h =
+module _ {F : List ℕ} (w : FlagList F) where
+  whole_word : (b word : ℕ) → in_word word ≡ take 64 (drop (b * 64) F) → left F b word ≡ drop (b * 64) F
+  whole_word b word h =
       let behind : drop 64 (drop (b * 64) F) ≡ drop (b * 64 + 64) F = drop-drop 64 (b * 64) F in
-      (λ i. sym (words_word w.summed b h) i ++ sym behind i) ∙ take-append-drop 64 (drop (b * 64) F)
+      (λ i. h i ++ sym behind i) ∙ take-append-drop 64 (drop (b * 64) F)
 
-  pub left_start : (first : ℕ) → 0 < ones F → first ≡ place 0 F → Left flags (first / 64) (get_or flags (first / 64) 0) 0
-  left_start first some e =
+  pub left_start : (first word : ℕ) → 0 < ones F → first ≡ place 0 F → in_word word ≡ take 64 (drop (first / 64 * 64) F) → Left F (first / 64) word 0
+  left_start first word some e h =
       let b = first / 64 in
-      let size = words_size w.summed in
+      let size = w.size in
       let below : first < 2048 = omega (arith, place_lt 0 F some) in
       let none = none_before (b * 64) F (omega arith) (omega arith) in
-      let whole = whole_word b (omega arith) in
+      let whole = whole_word b word h in
       record {
         word = omega arith;
         all = rw whole (omega (arith, ones_split (b * 64) F));
@@ -87,47 +81,48 @@ module _ {flags : List ℕ} (w : Counted flags) where
             rw z (place_skip (b * 64) j F (omega arith) (omega arith) ∙ ap (λ (n : ℕ). b * 64 + place n (drop (b * 64) F)) y));
       }
 
-  module _ (b rest k : ℕ) (l : Left flags b rest k) (more : k < ones F) where
+  module _ (b rest k : ℕ) (l : Left F b rest k) (more : k < ones F) where
     -- none is left in the word: the next word is whole
-    pub left_word : 64 ≤ place 0 (in_word rest) → (b + 1 < 32) × Left flags (b + 1) (get_or flags (b + 1) 0) k
+    pub left_word : 64 ≤ place 0 (in_word rest) → (b + 1 < 32) × ((word : ℕ) → in_word word ≡ take 64 (drop ((b + 1) * 64) F) → Left F (b + 1) word k)
     left_word h =
         let none = none_there (in_word rest) (omega (arith, word_size rest)) in
         let both = ones_append (in_word rest) (drop (b * 64 + 64) F) in
         let next : b + 1 < 32 = go (dec_le (suc (b + 1)) 32) (omega (arith, l.all, both)) in
-        let same : (b + 1) * 64 ≡ b * 64 + 64 = omega arith in
-        let whole = whole_word (b + 1) next ∙ ap (λ (n : ℕ). drop n F) same in (
+        let same : (b + 1) * 64 ≡ b * 64 + 64 = omega arith in (
           next,
-          record {
-            word = next;
-            all = rw whole (omega (arith, l.all, both));
-            at = rw whole (λ j g.
-                let z : j - ones (in_word rest) ≡ j = omega arith in
-                l.at j (omega (arith, both)) ∙ ap (λ (n : ℕ). b * 64 + n) (place_right j (in_word rest) (drop (b * 64 + 64) F) (omega arith) ∙ ap (λ (n : ℕ). length (in_word rest) + place n (drop (b * 64 + 64) F)) z) ∙ omega (arith, word_size rest));
-          },
+          λ word is.
+              let whole = whole_word (b + 1) word is ∙ ap (λ (n : ℕ). drop n F) same in
+              record {
+                word = next;
+                all = rw whole (omega (arith, l.all, both));
+                at = rw whole (λ j g.
+                    let z : j - ones (in_word rest) ≡ j = omega arith in
+                    l.at j (omega (arith, both)) ∙ ap (λ (n : ℕ). b * 64 + n) (place_right j (in_word rest) (drop (b * 64 + 64) F) (omega arith) ∙ ap (λ (n : ℕ). length (in_word rest) + place n (drop (b * 64 + 64) F)) z) ∙ omega (arith, word_size rest));
+              },
         )
       where
         go : Dec (suc (b + 1) ≤ 32) → 0 < ones (drop (b * 64 + 64) F) → b + 1 < 32
         go (yes g) p = g
-        go (no z) p = absurd (omega (arith, ones_past F (b * 64 + 64) (omega (arith, words_size w.summed))))
+        go (no z) p = absurd (omega (arith, ones_past F (b * 64 + 64) (omega (arith, w.size))))
 
     -- the first one of the word's rest is the next
     pub left_one : (p : ℕ) → p ≡ place 0 (in_word rest) → p < 64 → (get_or (in_word rest) p 0 ≡ 1) × (b * 64 + p ≡ place k F)
-        × ((rest' : ℕ) → in_word rest' ≡ set (in_word rest) p 0 → Left flags b rest' (k + 1))
+        × ((rest' : ℕ) → in_word rest' ≡ set (in_word rest) p 0 → Left F b rest' (k + 1))
     left_one p e h =
         let some = some_there (in_word rest) (omega (arith, word_size rest)) in
         let tail = drop (b * 64 + 64) F in
         let both = ones_append (in_word rest) tail in
-        let first : place 0 (left flags b rest) ≡ p = place_left 0 (in_word rest) tail some ∙ sym e in
+        let first : place 0 (left F b rest) ≡ p = place_left 0 (in_word rest) tail some ∙ sym e in
         let one : get_or (in_word rest) p 0 ≡ 1 = rw e (place_one 0 (in_word rest) (word_binary rest) some) in
         let z : k + 0 ≡ k = omega arith in
-        let G = left flags b rest in
+        let G = left F b rest in
         let found : 0 < ones G = omega (arith, both) in
-        let binary : Binary G = binary_append (in_word rest) tail (word_binary rest) (λ i. rw (get_or-drop (b * 64 + 64) F i 0) (w.tallied.binary (b * 64 + 64 + i))) in
+        let binary : Binary G = binary_append (in_word rest) tail (word_binary rest) (λ i. rw (get_or-drop (b * 64 + 64) F i 0) (w.binary (b * 64 + 64 + i))) in
         let fewer : ones (set G (place 0 G) 0) + 1 ≡ ones G = omega (arith, ones_set G (place 0 G) 0 (place_lt 0 G found), place_one 0 G binary found) in (
           one,
           ap (λ (n : ℕ). b * 64 + n) (sym first) ∙ sym (l.at 0 found) ∙ ap (λ (n : ℕ). place n F) z,
           λ rest' put.
-              let same : left flags b rest' ≡ set G (place 0 G) 0 = ap (λ (m : List ℕ). m ++ tail) put ∙ sym (set-append_left (in_word rest) tail p 0 (omega (arith, word_size rest))) ∙ ap (λ (i : ℕ). set G i 0) (sym first) in
+              let same : left F b rest' ≡ set G (place 0 G) 0 = ap (λ (m : List ℕ). m ++ tail) put ∙ sym (set-append_left (in_word rest) tail p 0 (omega (arith, word_size rest))) ∙ ap (λ (i : ℕ). set G i 0) (sym first) in
               record {
                 word = l.word;
                 all = rw same (omega (arith, fewer, l.all));

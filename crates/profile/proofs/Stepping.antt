@@ -34,7 +34,7 @@ use Rattle.rules.specs.declared.answer.Outcome.TheVariants as Outcomes
 use Rattle.rules.specs.InstructionSet.{machine_of}
 use Rattle.rules.specs.Run.{token_held}
 use Rattle.rules.proofs.Lawful.{lawful}
-use Rattle.store_flags.specs.Flags.{places, flags_of}
+use Rattle.store_flags.specs.Flags.{places}
 use Rattle.store_chains.proofs.Index.{and_right}
 use Rattle.store.proofs.Laws.{matching_places, matching_enabled_below, matching_leads, matching_room}
 use Rattle.store_enabled.specs.Enabled.{arity_of, operands_live, earliest_of, leads_in, enabled_places}
@@ -171,18 +171,18 @@ module _ (graph : List ℕ) {tables links₀ flags₀ ledger₀ cells₀ : List 
   acts_here : acts ≡ map started (enabled_places tables (tokens start ledger₀))
   acts_here = enabled_here g (arrays_in tables) (length ledger₀ / token_width) (length cells₀ / cell_width) tables (tokens start ledger₀) (cells_in cells₀) ready.arities_right (on_ports g (tokens start ledger₀) now₀.arrived)
 
-  places_here : places_of M₀ acts ≡ places (flags_of flags₀)
+  places_here : places_of M₀ acts ≡ places flags₀
   places_here = ap (places_of M₀) acts_here ∙ go (enabled_places tables (tokens start ledger₀)) ∙ sym (matching_places now₀.matching)
     where
       go : (l : List ℕ) → places_of M₀ (map started l) ≡ l
       go [] = refl
       go (p ∷ l) = ap (λ (r : List ℕ). p ∷ r) (go l)
 
-  acts_all : (count : ℕ) → count ≡ length (places (flags_of flags₀)) → count ≡ length acts
+  acts_all : (count : ℕ) → count ≡ length (places flags₀) → count ≡ length acts
   acts_all count e = e ∙ ap length (sym places_here) ∙ length-map acts (λ (a : Activity Tag). a.place)
 
   -- nothing is enabled
-  pub step_none : (count : ℕ) → count ≡ length (places (flags_of flags₀)) → count ≡ 0 → (o : AnswerOutcome.Outcome) → EndsWith o tables (tokens start ledger₀)
+  pub step_none : (count : ℕ) → count ≡ length (places flags₀) → count ≡ 0 → (o : AnswerOutcome.Outcome) → EndsWith o tables (tokens start ledger₀)
       → ProfileHalted o g tables links₀ flags₀ ledger₀ cells₀ 0 start start ledger₀ cells₀
   step_none count e z o said = record {
     went = record { log = []; fires = refl; counted = refl; running = now₀; grown = omega arith; size = refl; rest = refl; cell_size = refl };

@@ -1,6 +1,6 @@
 -- Working definition: no public promise cites it.
 -- A profile, a step at a time, in the terms of the machine: what a step leaves, and what a profile leaves. Assumes nothing.
-use Rattle.std.specs.Prelude.{ℕ, suc, ◌+◌, ◌-◌, ◌*◌, ◌≤◌, ◌<◌, ◌≡◌, List, length, get_or, drop, ℤ}
+use Rattle.std.specs.Prelude.{ℕ, suc, ◌+◌, ◌-◌, ◌*◌, ◌≤◌, ◌<◌, ◌≡◌, List, length, get_or, drop, ℤ, Result, Ok, Err}
 use Rattle.record.specs.declared.tag.Tag.{Tag}
 use Rattle.record.specs.declared.array.NamedArray.{NamedArray}
 use Rattle.record.specs.declared.token.Token.{Token}
@@ -20,13 +20,13 @@ use Rattle.rules.specs.declared.answer.Profiled.{Profiled}
 use Rattle.rules.specs.InstructionSet.{machine_of}
 use Rattle.rules.specs.Run.{outcome_of}
 use Rattle.rules.specs.Profile.{encode_step}
-use Rattle.store_flags.specs.Flags.{places, flags_of}
+use Rattle.store_flags.specs.Flags.{places}
 use Rattle.abstraction.specs.States.{state_held, OnPorts}
 use Rattle.abstraction.specs.Tables.{Arities}
 use Rattle.fire.specs.Running.{machine_over, state_in, Running}
 use Rattle.start.specs.Ended.{EndedAt}
-use Rattle.profile.specs.declared.StepEnd.{StepEnd}
-use Rattle.profile.specs.declared.StepEnd.TheVariants as StepEnds
+use Rattle.profile.specs.declared.Whole.{Whole}
+use Rattle.profile.specs.declared.Ended.{Ended}
 
 -- live plus deferred tokens
 abbrev pub unspent_at : List Instruction → (tables ledger cells : List ℕ) → (used : ℕ) → ℕ
@@ -40,8 +40,8 @@ profile_from g left f tables ledger cells used = profile (machine_over g tables 
 
 -- the places of the enabled activities
 pub record PlacesIn (count : ℕ) (flags out : List ℕ) : Type 0 where
-  pub counted : count ≡ length (places (flags_of flags))
-  pub written : (k : ℕ) → k < count → get_or out k 0 ≡ get_or (places (flags_of flags)) k 0
+  pub counted : count ≡ length (places flags)
+  pub written : (k : ℕ) → k < count → get_or out k 0 ≡ get_or (places flags) k 0
   pub size : length out ≡ 2048
 
 -- what an activity that is enabled has
@@ -91,11 +91,11 @@ FiredAs Outcomes.Hung g tables links flags ledger' cells' count n spent used led
 FiredAs Outcomes.Spent g tables links flags ledger' cells' count n spent used ledger cells =
     AllFired g tables links flags ledger' cells' count n spent used ledger cells
 
-abbrev pub StepDone : StepEnd → List Instruction → (tables links flags ledger' cells' : List ℕ) → (used : ℕ) → (ledger cells : List ℕ) → Type 0
-StepDone (StepEnds.Whole count n unspent) g tables links flags ledger' cells' used ledger cells =
-    SteppedWhole g tables links flags ledger' cells' count n unspent used ledger cells
-StepDone (StepEnds.Ended o done n) g tables links flags ledger' cells' used ledger cells =
-    ProfileHalted o g tables links flags ledger' cells' done n used ledger cells
+abbrev pub StepDone : Result Whole Ended → List Instruction → (tables links flags ledger' cells' : List ℕ) → (used : ℕ) → (ledger cells : List ℕ) → Type 0
+StepDone (Ok whole) g tables links flags ledger' cells' used ledger cells =
+    SteppedWhole g tables links flags ledger' cells' whole.firings whole.tokens whole.unspent used ledger cells
+StepDone (Err end) g tables links flags ledger' cells' used ledger cells =
+    ProfileHalted end.outcome g tables links flags ledger' cells' end.firings end.tokens used ledger cells
 
 -- the outcome where no record is left, whatever firings came before
 abbrev pub LastAs : AnswerOutcome.Outcome → (tables : List ℕ) → List Token → Type 0

@@ -2,27 +2,25 @@
 // order, and each whole step leaves a record.
 #![tactic(auto)]
 
-ghost use Rattle.std.specs.Prelude.{ℕ, ◌/◌, ◌<◌, ◌≤◌, ◌≡◌, length};
+ghost use Rattle.std.specs.Prelude.{ℕ, ◌/◌, ◌<◌, ◌≤◌, ◌≡◌, length, Ok};
 ghost use Rattle.buffer.specs.Rows.{put_row};
 ghost use Rattle.record.specs.GraphRecords.{graph_of};
 ghost use Rattle.record.specs.TokensAndTags.{tokens, token_at};
 ghost use Rattle.record.specs.Widths.{token_width, cell_width, step_width};
 ghost use Rattle.machine.specs.Steps.{profile as Machine·profile};
 ghost use Rattle.rules.specs.declared.answer.Refusal.TheVariants.{ProfileFull};
-ghost use Rattle.rules.specs.declared.answer.Checked.TheVariants.{Passed};
 ghost use Rattle.rules.specs.Run.{first_state};
 ghost use Rattle.rules.specs.Profile.{check_profile_stores, check_profile, encode_step};
 ghost use Rattle.rules.specs.Runs.{lent_to_profile, left_by_profile, ProfiledOn};
-ghost use Rattle.store_flags.specs.Flags.{Counted, places, flags_of};
+ghost use Rattle.store_flags.specs.Flags.{places};
 ghost use Rattle.store_enabled.specs.Enabled.{arity_of, enabled_places};
 ghost use Rattle.fire.specs.Running.{Prepared, Running};
 ghost use Rattle.start.specs.Begun.{machine_lent};
 ghost use Rattle.profile.specs.Steps.{OneOrTwo, PlacesIn, unspent_at, profile_from, LastAs, FiredAs, StepDone, ProfiledTo};
 
 use checks::stores;
-use fire_commit::Fired;
 use record::token;
-use rules::answer::{Answer, Checked, Outcome, Profiled, Refusal};
+use rules::answer::{Answer, Fault, Outcome, Profiled, Refusal};
 use store_chains::Links;
 use store_enabled::Tables;
 use store_flags::Flags;
@@ -30,12 +28,20 @@ use store_flags::Flags;
 // The bytes of a step's record.
 pub const WIDTH: usize = 4;
 
-// What an ideal step comes to: all its activities fired, with their number, the tokens, and those of them that are live or
-// deferred; or the profile is at its end, with the firings of the step that were done and the tokens.
+// An ideal step all of whose activities fired: their number, the tokens that it left, and those of them that are live or deferred.
 #[derive(Clone, Copy)]
-pub enum StepEnd {
-    Whole(usize, usize, usize),
-    Ended(Outcome, usize, usize),
+pub struct Whole {
+    pub firings: usize,
+    pub tokens: usize,
+    pub unspent: usize,
+}
+
+// A step in which the profile is at its end: the firings of the step that were done, and the tokens then.
+#[derive(Clone, Copy)]
+pub struct Ended {
+    pub outcome: Outcome,
+    pub firings: usize,
+    pub tokens: usize,
 }
 
 // How far the activities of a step came, fired in turn: all of them, or up to the one that was refused; with the tokens then, and the
@@ -49,17 +55,14 @@ pub struct Progress {
 }
 
 // 7: a profile in whole records, and the stores of a run without picks, by their lengths in bytes.
-fn check_stores(inputs: usize, ledger: usize, cells: usize, profile: usize) -> Checked
+fn check_stores(inputs: usize, ledger: usize, cells: usize, profile: usize) -> Result<(), Fault>
     ensures { result ≡ check_profile_stores inputs ledger cells profile }
 {
-    let of_stores = stores::check(inputs, 0, ledger, cells);
-    let Checked::Passed = of_stores else {
-        return of_stores;
-    };
+    stores::check(inputs, 0, ledger, cells)?;
     if profile % WIDTH == 0 {
-        Checked::Passed
+        Ok(())
     } else {
-        Checked::Failed(Refusal::BadStore, 0)
+        Err(Refusal::BadStore.at(0))
     }
 }
 
@@ -71,7 +74,7 @@ fn check(
     ledger: usize,
     cells: usize,
     profile: usize,
-) -> Checked
+) -> Result<(), Fault>
     ensures { result ≡ check_profile graph.now arrays.now inputs.now ledger cells profile }
 {
     let of_stores = check_stores(inputs.len(), ledger, cells, profile);
@@ -82,12 +85,9 @@ fn check(
 fn bytes_of(firings: usize, unspent: usize) -> [u8; WIDTH]
     ensures { result ≡ encode_step (record { firings = firings; unspent = unspent }) }
 {
-    [
-        (firings % 256) as u8,
-        (firings / 256 % 256) as u8,
-        (unspent % 256) as u8,
-        (unspent / 256 % 256) as u8,
-    ]
+    let [a, b, ..] = firings.to_le_bytes();
+    let [c, d, ..] = unspent.to_le_bytes();
+    [a, b, c, d]
 }
 
 // Writes a step's record as record i of a profile; every other byte stays.
@@ -97,12 +97,6 @@ fn put_record(profile: &mut [u8], i: usize, firings: usize, unspent: usize)
 {
     let bytes = bytes_of(firings, unspent);
     buffer::put_row(profile, WIDTH, i, &bytes);
-}
-
-fn wide(x: u16) -> usize
-    ensures { (result ≡ x) × (result < 65536) }
-{
-    x as usize
 }
 
 // How many operands the activity has whose place this is. It is enabled, so they are one or two.
@@ -121,7 +115,7 @@ fn operands_at(tables: &Tables, ledger: &[u8], place: usize) -> usize
 
 // How a profile ends that has no record left: 18, unless nothing is enabled.
 fn no_record(tables: &Tables, flags: &Flags, ledger: &[u8], used: usize) -> Outcome
-    requires { Counted flags.now × (places (flags_of flags.now) ≡ enabled_places tables.now (tokens used ledger.now)) × (used ≤ length ledger.now / token_width) }
+    requires { (places flags.now ≡ enabled_places tables.now (tokens used ledger.now)) × (used ≤ length ledger.now / token_width) }
     ensures { LastAs result tables.now (tokens used ledger.now) }
 {
     if store::enabled_count(flags) == 0 {
@@ -134,12 +128,13 @@ fn no_record(tables: &Tables, flags: &Flags, ledger: &[u8], used: usize) -> Outc
 // Writes the places of so many enabled activities, which are all, in order. From the word of the first on, the flags of a word are
 // taken away in turn.
 fn put_places(flags: &Flags, count: usize, out: &mut [u16; 2048])
-    requires { Counted flags.now × (length out.old ≡ 2048) × (count ≡ length (places (flags_of flags.now))) × (0 < count) }
+    requires { (length out.old ≡ 2048) × (count ≡ length (places flags.now)) × (0 < count) }
     ensures { PlacesIn count flags.now out.new }
 {
     let mut b = store::enabled_at(flags, 0) / 64;
-    let mut rest = flags[b];
+    let mut rest = flags.word_at(b);
     let mut k = 0;
+    // No `for`: an iteration writes a place, or goes on to the next word.
     while k < count {
         if 0 < rest {
             let p = store_flags::lowest(rest);
@@ -148,14 +143,14 @@ fn put_places(flags: &Flags, count: usize, out: &mut [u16; 2048])
             k += 1;
         } else {
             b += 1;
-            rest = flags[b];
+            rest = flags.word_at(b);
         }
     }
 }
 
 // Writes the places of the enabled activities, in order, and answers how many there are. One alone is found at once.
 fn enabled_places(flags: &Flags, out: &mut [u16; 2048]) -> usize
-    requires { Counted flags.now × (length out.old ≡ 2048) }
+    requires { length out.old ≡ 2048 }
     ensures { PlacesIn result flags.now out.new }
 {
     let count = store::enabled_count(flags);
@@ -190,17 +185,13 @@ fn in_turn(
 {
     let mut used = start;
     let mut spent = 0;
-    let mut firings = 0;
-    while firings < count {
-        let place = wide(places[firings]);
+    for firings in 0..count {
+        let place = places[firings] as usize;
         spent += operands_at(tables, ledger, place);
         let fired = fire::fire(graph, tables, links, flags, ledger, cells, used, place);
         match fired {
-            Fired::Done(n) => {
-                used = n;
-                firings += 1;
-            }
-            Fired::Refused(r) => {
+            Ok(n) => used = n,
+            Err(r) => {
                 return Progress {
                     outcome: Outcome::Refused(r, place),
                     firings,
@@ -212,7 +203,7 @@ fn in_turn(
     }
     Progress {
         outcome: Outcome::Spent,
-        firings,
+        firings: count,
         tokens: used,
         spent,
     }
@@ -230,7 +221,7 @@ fn step(
     places: &mut [u16; 2048],
     start: usize,
     live: usize,
-) -> StepEnd
+) -> Result<Whole, Ended>
     requires { Prepared graph.now tables.now
         × Running (graph_of graph.now) tables.now links.old flags.old ledger.old cells.old start
         × (live ≡ unspent_at (graph_of graph.now) tables.now ledger.old cells.old start)
@@ -241,18 +232,29 @@ fn step(
 {
     let count = enabled_places(flags, places);
     if count == 0 {
-        return StepEnd::Ended(ending::ending(tables, ledger, start), 0, start);
+        return Err(Ended {
+            outcome: ending::ending(tables, ledger, start),
+            firings: 0,
+            tokens: start,
+        });
     }
     let done = in_turn(
         graph, tables, links, flags, ledger, cells, places, count, start,
     );
     let outcome = done.outcome;
-    let n = done.tokens;
+    let firings = done.firings;
+    let tokens = done.tokens;
     match outcome {
-        Outcome::Refused(r, place) => {
-            StepEnd::Ended(Outcome::Refused(r, place), done.firings, n)
-        }
-        _ => StepEnd::Whole(done.firings, n, live + (n - start) - done.spent),
+        Outcome::Refused(_, _) => Err(Ended {
+            outcome,
+            firings,
+            tokens,
+        }),
+        _ => Ok(Whole {
+            firings,
+            tokens,
+            unspent: live + (tokens - start) - done.spent,
+        }),
     }
 }
 
@@ -292,8 +294,7 @@ fn proceed(
     let mut used = start;
     let mut unspent = start;
     let mut firings = 0;
-    let mut records = 0;
-    while records < room {
+    for records in 0..room {
         let ended = step(
             graph,
             tables,
@@ -306,20 +307,19 @@ fn proceed(
             unspent,
         );
         match ended {
-            StepEnd::Whole(count, n, live) => {
-                put_record(profile, records, count, live);
-                used = n;
-                unspent = live;
-                firings += count;
-                records += 1;
+            Ok(whole) => {
+                put_record(profile, records, whole.firings, whole.unspent);
+                used = whole.tokens;
+                unspent = whole.unspent;
+                firings += whole.firings;
             }
-            StepEnd::Ended(outcome, done, n) => {
-                return answered(outcome, firings + done, n, records);
+            Err(end) => {
+                return answered(end.outcome, firings + end.firings, end.tokens, records);
             }
         }
     }
     let outcome = no_record(tables, flags, ledger, used);
-    answered(outcome, firings, used, records)
+    answered(outcome, firings, used, room)
 }
 
 // A profile that passed every check: all cells are set absent, the inputs go into the ledger, and it
@@ -332,7 +332,7 @@ fn accepted(
     cells: &mut [u8],
     profile: &mut [u8],
 ) -> Profiled
-    requires { check_profile graph.now arrays.now inputs.now (length ledger.old) (length cells.old) (length profile.old) ≡ Passed }
+    requires { check_profile graph.now arrays.now inputs.now (length ledger.old) (length cells.old) (length profile.old) ≡ Ok tt }
     ensures { ProfiledTo
         (Machine·profile (machine_lent graph.now arrays.now ledger.old cells.old) ProfileFull
         (length profile.old / step_width) 0 (first_state inputs.now (length cells.old / cell_width))) result
@@ -340,7 +340,7 @@ fn accepted(
 {
     let mut tables = [0u16; store_enabled::TABLES_LENGTH];
     let mut links = [0u16; store_chains::LENGTH];
-    let mut flags = [0u64; store_flags::LENGTH];
+    let mut flags = Flags::new();
     let used = start::begin(
         graph,
         arrays,
@@ -378,7 +378,7 @@ pub fn profile(
         profile.len(),
     );
     match checked {
-        Checked::Failed(r, place) => answered(Outcome::Refused(r, place), 0, 0, 0),
-        Checked::Passed => accepted(graph, arrays, inputs, ledger, cells, profile),
+        Err(fault) => answered(Outcome::Refused(fault.refusal, fault.place), 0, 0, 0),
+        Ok(()) => accepted(graph, arrays, inputs, ledger, cells, profile),
     }
 }

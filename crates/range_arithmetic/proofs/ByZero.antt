@@ -1,8 +1,7 @@
 -- Quotients and remainders by 0 and in 64 bits, numbers by their bits, and ranges in 32 bits. Assumes nothing.
 use Prim.Native.Nat.{ℕ, zero, suc, ◌<◌}
 use mathlib.Core.Path.{◌≡◌, refl, ap, sym, subst}
-use mathlib.Core.Bool.{Bool, true, false, ◌&&◌, cond}
-use mathlib.Core.Option.{Option, none, some}
+use mathlib.Core.Bool.{Bool, true, false, cond}
 use native.Mathlib.Omega.{arith}
 use native.Mathlib.Nat.{div-zero, mod-zero}
 use lib.IntN.{ℤ, pos, negsuc, neg_ℤ, ◌-ℤ◌, +ℤ_idl}
@@ -12,11 +11,10 @@ use mir.Syntax.{Width, w32, w64}
 use mir.Val.{SFits, to_z, of_z}
 use mir.Facts.{sfits_widen, sfits_lit, to_z-of_z}
 use borrow.Author.Tests.{eqb-true, eqb-false}
+use Rattle.std.specs.Prelude.{None, Some}
 use Rattle.arithmetic.specs.declared.Range.{Range}
-use Rattle.arithmetic.specs.declared.Computed.{Computed}
-use Rattle.arithmetic.specs.declared.Computed.TheVariants.{Value, OutOfRange}
 use Rattle.arithmetic.specs.Arithmetic.{least, most, eq_z, ranged}
-use Rattle.arithmetic.specs.Ranges.{is_value, in_bits}
+use Rattle.arithmetic.specs.Ranges.{in_bits}
 use Rattle.arithmetic.proofs.Signed.{same_bits, quotient_fits}
 use Rattle.arithmetic.proofs.Ranged.{eq_eq_z, ne_eq_z}
 
@@ -50,28 +48,18 @@ module _ (x y : ℤ) (f : SFits w32 x) (g : SFits w32 y) where
 
 -- ---- ranges in 32 bits
 
-value_of : (z v : ℤ) → ranged z ≡ Value v → v ≡ z
+value_of : (z v : ℤ) → ranged z ≡ Some v → v ≡ z
 unfolding ranged
 value_of z v e = go (lt_z z least) (lt_z most z) e
   where
-    go : (a b : Bool) → cond a OutOfRange (cond b OutOfRange (Value z)) ≡ Value v → v ≡ z
+    go : (a b : Bool) → cond a None (cond b None (Some z)) ≡ Some v → v ≡ z
     go true b h = let c : ◌≡◌ {A = ℕ} 0 1 = cc in absurd (omega arith)
     go false true h = let c : ◌≡◌ {A = ℕ} 0 1 = cc in absurd (omega arith)
     go false false h = cc
 
 module _ (low high : ℤ) where
-  pub low_out : ranged low ≡ OutOfRange → none ≡ in_bits (record { low = low; high = high })
-  low_out e = rw e
-
-  pub high_out : ranged high ≡ OutOfRange → none ≡ in_bits (record { low = low; high = high })
-  high_out e = rw e (go (ranged low))
-    where
-      go : (c : Computed) → ◌≡◌ {A = Option Range} none (cond (is_value c && false) (some (record { low = low; high = high })) none)
-      go (Value v) = refl
-      go OutOfRange = refl
-
-  pub both_in : (l h : ℤ) → ranged low ≡ Value l → ranged high ≡ Value h → some (record { low = l; high = h }) ≡ in_bits (record { low = low; high = high })
-  both_in l h e d = rw (e, d) (λ j. some (record { low = value_of low l e j; high = value_of high h d j }))
+  pub both_in : (l h : ℤ) → ranged low ≡ Some l → ranged high ≡ Some h → Some (record { low = l; high = h }) ≡ in_bits (record { low = low; high = high })
+  both_in l h e d = rw (e, d) (λ j. Some (record { low = value_of low l e j; high = value_of high h d j }))
 
 -- ---- 0 less a number that is not negative
 

@@ -1,4 +1,4 @@
-// Signed arithmetic over ranges (02, R-11): the smallest range that holds every outcome, or that one is out of range.
+// Signed arithmetic over ranges (02, R-11): the smallest range that holds every outcome; None where one is out of range.
 #![tactic(auto)]
 
 mod outcomes;
@@ -8,36 +8,22 @@ ghost use Rattle.std.specs.Int.Signed.{lt_z, le_z};
 ghost use Rattle.arithmetic.specs.Arithmetic.{eq_z};
 ghost use Rattle.arithmetic.specs.Ranges.{corners, outcome, in_bits, range_of};
 ghost use Rattle.arithmetic.specs.Ranges as Ranges;
-ghost use Rattle.range_arithmetic.specs.Given.{given_range};
 
-use arithmetic::{Computed, Range};
+use arithmetic::Range;
 use record::operation::Arithmetic;
 
-// What an operation gives.
-#[derive(Clone, Copy)]
-pub enum Ranged {
-    Between(Range),
-    OutOfRange,
-}
-
 // The range between two numbers, where both fit 32 bits.
-fn narrowed(low: i64, high: i64) -> Ranged
-    ensures { given_range result ≡ in_bits (record { low = low; high = high }) }
+fn narrowed(low: i64, high: i64) -> Option<Range>
+    ensures { result ≡ in_bits (record { low = low; high = high }) }
 {
-    let of_low = arithmetic::narrowed(low);
-    let Computed::Value(l) = of_low else {
-        return Ranged::OutOfRange;
-    };
-    let of_high = arithmetic::narrowed(high);
-    let Computed::Value(h) = of_high else {
-        return Ranged::OutOfRange;
-    };
-    Ranged::Between(Range { low: l, high: h })
+    let low = arithmetic::narrowed(low)?;
+    let high = arithmetic::narrowed(high)?;
+    Some(Range { low, high })
 }
 
 // The least and the most of four corners.
-fn at_corners(op: Arithmetic, a: Range, b: Range) -> Ranged
-    ensures { given_range result ≡ in_bits (corners (outcome op) a b) }
+fn at_corners(op: Arithmetic, a: Range, b: Range) -> Option<Range>
+    ensures { result ≡ in_bits (corners (outcome op) a b) }
 {
     let ll = outcomes::outcome(op, a.low, b.low);
     let lh = outcomes::outcome(op, a.low, b.high);
@@ -74,8 +60,8 @@ fn maybe_equal(a: Range, b: Range) -> bool
     a.low <= b.high && b.low <= a.high
 }
 
-fn equalities(a: Range, b: Range) -> Ranged
-    ensures { given_range result ≡ in_bits (Ranges.equalities a b) }
+fn equalities(a: Range, b: Range) -> Option<Range>
+    ensures { result ≡ in_bits (Ranges.equalities a b) }
 {
     narrowed(
         outcomes::truth(surely_equal(a, b)),
@@ -120,8 +106,8 @@ fn both_single(a: Range, b: Range) -> bool
 }
 
 // Exact of two single values; else by the dividend's signs and the divisor's largest magnitude.
-fn remainders(a: Range, b: Range) -> Ranged
-    ensures { given_range result ≡ in_bits (Ranges.remainders a b) }
+fn remainders(a: Range, b: Range) -> Option<Range>
+    ensures { result ≡ in_bits (Ranges.remainders a b) }
 {
     if both_single(a, b) {
         let r = outcomes::outcome(Arithmetic::Rem, a.low, b.low);
@@ -171,8 +157,8 @@ fn by_zero(op: Arithmetic, b: Range) -> bool
     divides(op) && may_be_zero(b)
 }
 
-fn of_outcomes(op: Arithmetic, a: Range, b: Range) -> Ranged
-    ensures { given_range result ≡ in_bits (Ranges.outcomes op a b) }
+fn of_outcomes(op: Arithmetic, a: Range, b: Range) -> Option<Range>
+    ensures { result ≡ in_bits (Ranges.outcomes op a b) }
 {
     match op {
         Arithmetic::Add => at_corners(op, a, b),
@@ -186,12 +172,12 @@ fn of_outcomes(op: Arithmetic, a: Range, b: Range) -> Ranged
     }
 }
 
-// What an operation gives of two ranges: 12 if an outcome is out of range or the divisor may be 0.
-pub fn range(op: Arithmetic, a: Range, b: Range) -> Ranged
-    ensures { given_range result ≡ range_of op a b }
+// What an operation gives of two ranges: None (refusal 12) if an outcome is out of range or the divisor may be 0.
+pub fn range(op: Arithmetic, a: Range, b: Range) -> Option<Range>
+    ensures { result ≡ range_of op a b }
 {
     if by_zero(op, b) {
-        return Ranged::OutOfRange;
+        return None;
     }
     of_outcomes(op, a, b)
 }

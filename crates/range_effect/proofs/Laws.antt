@@ -1,15 +1,16 @@
 -- The step of the rules over handles is the operation and then the new tags, with the control's low value (`step_parted`). What it asks for names cells below the
 -- count, sends to ports that a token can come to, and reads for some (`asked_fine`). Assumes nothing.
+use Rattle.std.proofs.Common.{Ok}
 use Prim.Native.Nat.{ℕ, suc, ◌≤◌}
 use mathlib.Core.Path.{◌≡◌, refl, sym, ap, subst}
 use mathlib.Core.Bool.{Bool, true, false, not, cond}
 use mathlib.Core.List.{List, [], ◌∷◌, map, append-nil}
-use mathlib.Core.Option.{Option, none, some}
 use native.Mathlib.Decide.{dec_le}
 use native.Mathlib.Omega.{arith}
 use borrow.Author.Tests.{ltb-true}
 use lib.ListN.{length, get_or-eq_default}
 use lib.IntN.{ℤ}
+use Rattle.std.specs.Prelude.{Option, None, Some, Result}
 use Rattle.record.specs.declared.array.NamedArray.{NamedArray}
 use Rattle.record.specs.declared.tag.Tag.{Tag}
 use Rattle.record.specs.declared.instruction.Destination.{Destination}
@@ -24,7 +25,6 @@ use Rattle.arithmetic.specs.Ranges.{single, is_single, range_of}
 use Rattle.machine.specs.Machine.{refuse}
 use Rattle.machine.specs.Orders.{CellsBelow, ReadsForSome}
 use Rattle.rules.specs.declared.answer.Refusal.TheVariants as Refusals
-use Rattle.rules.specs.declared.answer.Checked.TheVariants.{Passed}
 use Rattle.rules.specs.Check.{all, good_arc, instruction_at, check_graph}
 use Rattle.rules.specs.InstructionSet.{EffectHere, key_under, all_under, effect_of, effect_in}
 use Rattle.rules.specs.RangeSet.{is_undecided}
@@ -32,7 +32,8 @@ use Rattle.rules.specs.RangeHandles.{StepHere, meaning, send_new, range_step, st
 use Rattle.rules.proofs.Passed.{both}
 use Rattle.rules.proofs.PassedGraph.{of_graph}
 use Rattle.rules.proofs.Lawful.{lawful}
-use Rattle.fire_effect.specs.declared.operate.Operated.{Operated}
+use Rattle.rules.specs.declared.answer.Refusal.{Refusal}
+use Rattle.fire_effect.specs.declared.operate.Action.{Action}
 use Rattle.fire_effect.specs.Effects.{Arrives, AllSent, operated_of, new_tags_of, then_tags}
 use Rattle.fire_effect.proofs.Arrives.{all_arrive}
 use Rattle.fire_effect.proofs.Parted.{parted}
@@ -42,7 +43,7 @@ use Rattle.range_effect.specs.Asked.{Ask, as_is_ask, only_if, new_ask, ask_of, A
 -- ---- what the code's answer asks for
 
 -- nothing is added
-pub asks_as_is : (x : Operated) (table : List ℕ) (n : ℕ) → AsksFor (record { operated = x; count = n }) (as_is_ask x) table table n
+pub asks_as_is : (x : Result Action Refusal) (table : List ℕ) (n : ℕ) → AsksFor (record { operated = x; count = n }) (as_is_ask x) table table n
 asks_as_is x table n = record { operated = refl; held = sym (append-nil (table_of n table)); size = refl }
 
 -- ---- in two
@@ -50,11 +51,11 @@ asks_as_is x table n = record { operated = refl; held = sym (append-nil (table_o
 abbrev joined : Ask → (ℤ → EffectHere) → StepHere
 joined x f = record { added = x.added; asked = then_tags x.operated f }
 
-only_parted : (b : Bool) (e : EffectHere) (x : Operated) (f : ℤ → EffectHere) → e ≡ then_tags x f → cond b e (refuse Refusals.Undecided) ≡ then_tags (only_if b x) f
+only_parted : (b : Bool) (e : EffectHere) (x : Result Action Refusal) (f : ℤ → EffectHere) → e ≡ then_tags x f → cond b e (refuse Refusals.Undecided) ≡ then_tags (only_if b x) f
 only_parted true e x f h = h
 only_parted false e x f h = refl
 
-unless_parted : (b : Bool) (e : EffectHere) (x : Operated) (f : ℤ → EffectHere) → e ≡ then_tags x f → cond b (refuse Refusals.Undecided) e ≡ then_tags (only_if (not b) x) f
+unless_parted : (b : Bool) (e : EffectHere) (x : Result Action Refusal) (f : ℤ → EffectHere) → e ≡ then_tags x f → cond b (refuse Refusals.Undecided) e ≡ then_tags (only_if (not b) x) f
 unless_parted true e x f h = refl
 unless_parted false e x f h = h
 
@@ -78,13 +79,13 @@ step_parted Operations.Store g table cells t τ r a b = as_is_lem _ _ (only_part
 step_parted (Operations.OnTwo o) g table cells t τ r a b = go (range_of o (meaning t a) (meaning t b))
   where
     go : (q : Option Range) → send_new t q (all_under τ r) ≡ joined (new_ask t q) (new_tags_of (Operations.OnTwo o) g τ r (meaning t b).low)
-    go (some x) = refl
-    go none = refl
+    go (Some x) = refl
+    go None = refl
 step_parted (Operations.OnConstant o) g table cells t τ r a b = go (range_of o (meaning t a) (single r.constant))
   where
     go : (q : Option Range) → send_new t q (all_under τ r) ≡ joined (new_ask t q) (new_tags_of (Operations.OnConstant o) g τ r (meaning t b).low)
-    go (some x) = refl
-    go none = refl
+    go (Some x) = refl
+    go None = refl
 step_parted Operations.Unknown g table cells t τ r a b = refl
 
 -- ---- what holds of what it asks for
@@ -102,7 +103,7 @@ unfolding good_arc
 arcs g τ [] e = tt
 arcs g τ (d ∷ ds) e = let p = both (good_arc g d) (all (good_arc g) ds) e in (ltb-true _ _ p.0, arcs g τ ds p.1)
 
-module _ (graph : List ℕ) (passed : check_graph graph ≡ Passed) (table : List NamedArray) (cells : ℕ) (τ : Tag) where
+module _ (graph : List ℕ) (passed : check_graph graph ≡ Ok tt) (table : List NamedArray) (cells : ℕ) (τ : Tag) where
   abbrev g : List Instruction
   g = graph_of graph
 
@@ -127,8 +128,8 @@ module _ (graph : List ℕ) (passed : check_graph graph ≡ Passed) (table : Lis
 
   new_fine : (t : List Range) (q : Option Range) → Fine g cells (send_new t q (all_under τ r)).asked
   unfolding send_new
-  new_fine t (some x) = record { cells_below = tt; arrives = keys_arrive; reads_for_some = tt }
-  new_fine t none = refused_fine g cells
+  new_fine t (Some x) = record { cells_below = tt; arrives = keys_arrive; reads_for_some = tt }
+  new_fine t None = refused_fine g cells
 
   only_fine : (b : Bool) (e : EffectHere) → Fine g cells e → Fine g cells (cond b e (refuse Refusals.Undecided))
   only_fine true e f = f
@@ -143,7 +144,7 @@ module _ (graph : List ℕ) (passed : check_graph graph ≡ Passed) (table : Lis
   step_fine Operations.Copy e t a b = plain_fine Operations.Copy e a b
   step_fine Operations.Sink e t a b = plain_fine Operations.Sink e a b
   step_fine Operations.Out e t a b = plain_fine Operations.Out e a b
-  step_fine Operations.Const e t a b = new_fine t (some (single r.constant))
+  step_fine Operations.Const e t a b = new_fine t (Some (single r.constant))
   step_fine Operations.Switch e t a b = unless_fine (is_undecided (meaning t b)) _ (plain_fine Operations.Switch e a (meaning t b).low)
   step_fine Operations.Gate e t a b = plain_fine Operations.Gate e a b
   step_fine Operations.Next e t a b = plain_fine Operations.Next e a b

@@ -1,7 +1,6 @@
 -- Working definition: no public promise cites it.
 -- What an operation over handles asks for and adds to the table, in the order of Memo 205-1: the operation, then the new tags. Assumes nothing.
-use Rattle.std.specs.Prelude.{ℕ, ◌≡◌, Bool, not, cond, List, [], ◌∷◌, ◌++◌, length, ℤ, pos}
-use Rattle.std.proofs.Math.Option.{Option, none, some}
+use Rattle.std.specs.Prelude.{ℕ, ◌≡◌, Bool, not, cond, List, [], ◌∷◌, ◌++◌, length, ℤ, pos, Option, None, Some, Result, Ok, Err}
 use Rattle.record.specs.declared.array.NamedArray.{NamedArray}
 use Rattle.record.specs.declared.operation.Operation.{Operation}
 use Rattle.record.specs.declared.operation.Operation.TheVariants as Operations
@@ -10,35 +9,35 @@ use Rattle.arithmetic.specs.Ranges.{single, is_single, range_of}
 use Rattle.rules.specs.declared.answer.Refusal.TheVariants as Refusals
 use Rattle.rules.specs.RangeSet.{is_undecided}
 use Rattle.rules.specs.RangeHandles.{meaning}
+use Rattle.rules.specs.declared.answer.Refusal.{Refusal}
+use Rattle.fire_effect.specs.declared.operate.Action.{Action}
 use Rattle.fire_effect.specs.declared.operate.Action.TheVariants.{Send}
-use Rattle.fire_effect.specs.declared.operate.Operated.{Operated}
-use Rattle.fire_effect.specs.declared.operate.Operated.TheVariants.{Refuse, Act}
 use Rattle.fire_effect.specs.Effects.{operated_of}
 use Rattle.range_table.specs.Table.{table_of}
 use Rattle.range_effect.specs.declared.Asked as Code
 
 pub record Ask : Type 0 where
-  pub operated : Operated
+  pub operated : Result Action Refusal
   pub added : List Range
 
-abbrev pub as_is_ask : Operated → Ask
+abbrev pub as_is_ask : Result Action Refusal → Ask
 as_is_ask x = record { operated = x; added = [] }
 
 -- 23 unless it is decided
-abbrev pub only_if : Bool → Operated → Operated
-only_if decided x = cond decided x (Refuse Refusals.Undecided)
+abbrev pub only_if : Bool → Result Action Refusal → Result Action Refusal
+only_if decided x = cond decided x (Err Refusals.Undecided)
 
 -- a new range has the handle of the table's end; 12 if there is none
 abbrev pub new_ask : List Range → Option Range → Ask
-new_ask t (some r) = record { operated = Act (Send (pos (length t))); added = r ∷ [] }
-new_ask t none = record { operated = Refuse Refusals.OutOfRange; added = [] }
+new_ask t (Some r) = record { operated = Ok (Send (pos (length t))); added = r ∷ [] }
+new_ask t None = record { operated = Err Refusals.OutOfRange; added = [] }
 
 -- k is the constant, a and b are the handles on ports 0 and 1
 unfoldable pub ask_of : Operation → List NamedArray → (k : ℤ) → (cells : ℕ) → List Range → (a b : ℤ) → Ask
 ask_of Operations.Copy table k cells t a b = as_is_ask (operated_of Operations.Copy table k cells a b)
 ask_of Operations.Sink table k cells t a b = as_is_ask (operated_of Operations.Sink table k cells a b)
 ask_of Operations.Out table k cells t a b = as_is_ask (operated_of Operations.Out table k cells a b)
-ask_of Operations.Const table k cells t a b = new_ask t (some (single k))
+ask_of Operations.Const table k cells t a b = new_ask t (Some (single k))
 ask_of Operations.Switch table k cells t a b = as_is_ask (only_if (not (is_undecided (meaning t b))) (operated_of Operations.Switch table k cells a b))
 ask_of Operations.Gate table k cells t a b = as_is_ask (operated_of Operations.Gate table k cells a b)
 ask_of Operations.Next table k cells t a b = as_is_ask (operated_of Operations.Next table k cells a b)

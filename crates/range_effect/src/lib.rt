@@ -5,22 +5,20 @@
 ghost use Rattle.std.specs.Prelude.{◌+◌, ◌*◌, ◌<◌, ◌≤◌, ◌≡◌, cond, length};
 ghost use Rattle.rules.specs.RangeSet.{is_undecided};
 ghost use Rattle.abstraction.specs.Tables.{arrays_in};
-ghost use Rattle.range_arithmetic.specs.Given.{given_range};
 ghost use Rattle.range_table.specs.Table.{pair_width, table_of};
 ghost use Rattle.fire_effect.specs.Effects.{operated_of};
 ghost use Rattle.range_effect.specs.Asked.{only_if, new_ask, as_is_ask, ask_of, AsksFor};
 
 use arithmetic::Range;
 use fire_effect::operate;
-use fire_effect::operate::{Action, Operated};
-use range_arithmetic::Ranged;
+use fire_effect::operate::Action;
 use record::operation::Operation;
 use rules::answer::Refusal;
 
 // What an operation asks for, and how many ranges the table has after it.
 #[derive(Clone, Copy)]
 pub struct Asked {
-    pub operated: Operated,
+    pub operated: Result<Action, Refusal>,
     pub count: usize,
 }
 
@@ -32,33 +30,33 @@ fn undecided(control: Range) -> bool
 }
 
 // What is asked for if the operand that decides it is decided; else 23.
-fn only_if(decided: bool, operated: Operated, count: usize) -> Asked
+fn only_if(decided: bool, operated: Result<Action, Refusal>, count: usize) -> Asked
     ensures { result ≡ record { operated = only_if decided operated; count = count } }
 {
     if decided {
         Asked { operated, count }
     } else {
         Asked {
-            operated: Operated::Refuse(Refusal::Undecided),
+            operated: Err(Refusal::Undecided),
             count,
         }
     }
 }
 
 // A new range, with the handle of the table's end; 12 if there is none.
-fn anew(table: &mut [u8], count: usize, made: Ranged) -> Asked
+fn anew(table: &mut [u8], count: usize, made: Option<Range>) -> Asked
     requires { (count * pair_width + pair_width ≤ length table.old) × (count < 2050) }
-    ensures { AsksFor result (new_ask (table_of count table.old) (given_range made)) table.old table.new count }
+    ensures { AsksFor result (new_ask (table_of count table.old) made) table.old table.new count }
 {
     match made {
-        Ranged::OutOfRange => Asked {
-            operated: Operated::Refuse(Refusal::OutOfRange),
+        None => Asked {
+            operated: Err(Refusal::OutOfRange),
             count,
         },
-        Ranged::Between(r) => {
+        Some(r) => {
             range_table::add(table, count, r);
             Asked {
-                operated: Operated::Act(Action::Send(count as i32)),
+                operated: Ok(Action::Send(count as i32)),
                 count: count + 1,
             }
         }
@@ -82,7 +80,7 @@ pub fn operate(
     let x = range_table::meaning(table, count, a);
     let y = range_table::meaning(table, count, b);
     match o {
-        Operation::Const => anew(table, count, Ranged::Between(Range { low: k, high: k })),
+        Operation::Const => anew(table, count, Some(Range { low: k, high: k })),
         Operation::OnTwo(op) => anew(table, count, range_arithmetic::range(op, x, y)),
         Operation::OnConstant(op) => anew(
             table,

@@ -1,5 +1,6 @@
 -- The loop of a range run over handles: what holds of ledger, cells and table after so many firings, and that a turn, the chooser's end, a refusal and a spent budget end it
 -- as the machine's run over handles ends. What holds of ledger and cells whatever was fired is the engine's (`Underway`). Assumes nothing.
+use Rattle.std.specs.Prelude.{Result, Err}
 use Prim.Native.Nat.{ℕ, suc, ◌+◌, ◌-◌, ◌/◌, ◌≤◌, ◌<◌}
 use mathlib.Core.Path.{◌≡◌, refl, sym, ap, ◌∙◌}
 use mathlib.Core.List.{List, [], ◌++◌, append-nil}
@@ -30,9 +31,8 @@ use Rattle.store.proofs.Laws.{matching_few}
 use Rattle.fire.specs.Running.{machine_over, state_in, Running, Prepared}
 use Rattle.ending.specs.Endings.{RestsAs}
 use Rattle.engine.specs.declared.choice.Order.{Order}
-use Rattle.engine.specs.declared.turns.Turn.{Turn}
-use Rattle.engine.specs.declared.turns.Turn.TheVariants as Turns
-use Rattle.engine.specs.Turns.{chooser_of, chooser_for, Bounding, FiredOn, Turned, Advanced, Stops, by_choice, by_refusal, Halted}
+use Rattle.engine.specs.declared.turns.Fired.{Fired}
+use Rattle.engine.specs.Turns.{chooser_of, chooser_for, Holding, Followed, Turned, Advanced, Stops, by_choice, by_refusal, Halted}
 use Rattle.engine.proofs.Bounding.{fired_on}
 use Rattle.engine.proofs.Looping.{Underway, none_fired, as_lent, went_on, ends_here_lem, rests_here}
 use Rattle.range_table.specs.Table.{pair_width, pair_in, table_of}
@@ -45,7 +45,7 @@ use Rattle.range_engine.proofs.Stepping.{fires_step, step_below, step_one, went_
 
 -- the chooser ended the run: nothing is added
 pub taken_ended : {g : List Instruction} {chosen : Chosen Refusal Tag} (steps : Tag → StepHere) {tables links flags ledger cells table : List ℕ} {used count : ℕ} {o : AnswerOutcome.Outcome} {e : Outcome Refusal} → chosen ≡ ends e
-    → Halted o g chosen (λ τ. (steps τ).asked) tables links flags ledger cells used ledger cells → TakenAs (record { turn = Turns.Ended o; count = count }) g chosen steps tables links flags ledger cells table used ledger cells table count
+    → Halted o g chosen (λ τ. (steps τ).asked) tables links flags ledger cells used ledger cells → TakenAs (record { turn = Err o; count = count }) g chosen steps tables links flags ledger cells table used ledger cells table count
 taken_ended steps {table = table} {count = count} h halted = record {
   turned = halted;
   held = sym (append-nil (table_of count table)) ∙ ap (λ (y : Chosen Refusal Tag). table_of count table ++ added_by y steps) (sym h);
@@ -53,7 +53,7 @@ taken_ended steps {table = table} {count = count} h halted = record {
 }
 
 -- an activity was taken: what its step adds is added
-pub taken_fired : {g : List Instruction} {chosen : Chosen Refusal Tag} (steps : Tag → StepHere) (x : Turn) {a : Activity Tag} → chosen ≡ takes a → {r : Tried} {tables links flags ledger' cells' table' : List ℕ} {used : ℕ} {ledger cells table : List ℕ} {count : ℕ}
+pub taken_fired : {g : List Instruction} {chosen : Chosen Refusal Tag} (steps : Tag → StepHere) (x : Result Fired AnswerOutcome.Outcome) {a : Activity Tag} → chosen ≡ takes a → {r : Tried} {tables links flags ledger' cells' table' : List ℕ} {used : ℕ} {ledger cells table : List ℕ} {count : ℕ}
     → TriedAs r g a.tag (steps a.tag) tables links flags ledger' cells' table' used ledger cells table count → Turned x g chosen (λ τ. (steps τ).asked) tables links flags ledger' cells' used ledger cells
     → TakenAs (record { turn = x; count = r.count }) g chosen steps tables links flags ledger' cells' table' used ledger cells table count
 taken_fired steps x h {table = table} {count = count} tried turned = record {
@@ -202,9 +202,9 @@ module _ (graph : List ℕ) (order : Order) (source ledger₀ cells₀ table₀ 
 
     -- what is held back is to be known again
     pub follows : Prepared graph tables → {links' flags' ledger' cells' : List ℕ} {n place : ℕ} → Advanced (graph_of graph) chosen (λ τ. (steps τ).asked) place tables links' flags' ledger' cells' n used ledger cells
-        → (nexts held marks : List ℕ) → Bounding order (graph_of graph) tables flags ledger used nexts held marks → FiredOn order (graph_of graph) tables flags' ledger' used n nexts held marks
-    follows ready {ledger' = ledger'} {place = place} a nexts held marks b =
-        fired_on graph ready so.under.running (step_below graph ready.passed tables ledger cells used t (token_at ledger' place).tag) a.went order nexts held marks b
+        → (k : ℕ) (nexts held marks : List ℕ) → Holding (graph_of graph) k tables flags ledger used nexts held marks → Followed (graph_of graph) k tables flags' ledger' used n nexts held marks
+    follows ready {ledger' = ledger'} {place = place} a k nexts held marks b =
+        fired_on graph ready so.under.running (step_below graph ready.passed tables ledger cells used t (token_at ledger' place).tag) a.went k nexts held marks b
 
     -- the budget is spent
     pub finished : budget ≤ firings → Arities (graph_of graph) tables → (w : AnswerOutcome.Outcome) → RestsAs w tables (tokens used ledger)

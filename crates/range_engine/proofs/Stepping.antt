@@ -1,5 +1,6 @@
 -- What an activity's step over handles is, whatever operands it has: it fires as `commit` of what it asks for, with what it adds behind the table (`fires_step`); it names
 -- cells of the store (`step_below`), and adds one range at most (`step_one`), and none that no output takes (`went_few`). Assumes nothing.
+use Rattle.std.proofs.Common.{Ok}
 use Prim.Native.Nat.{ℕ, ◌+◌, ◌/◌, ◌≤◌, zero-le}
 use mathlib.Core.Path.{◌≡◌, refl, sym, ap, ◌∙◌}
 use mathlib.Core.List.{List, [], ◌++◌, map, append-nil}
@@ -7,6 +8,8 @@ use mathlib.Core.Option.{Option, none, some}
 use native.Mathlib.Omega.{arith}
 use lib.ListN.{length, length-append, length-map}
 use lib.IntN.{ℤ}
+use Rattle.std.specs.Prelude.{None, Some}
+use Rattle.std.specs.Prelude as code
 use Rattle.record.specs.declared.array.NamedArray.{NamedArray}
 use Rattle.record.specs.declared.tag.Tag.{Tag}
 use Rattle.record.specs.declared.instruction.Instruction.{Instruction}
@@ -27,7 +30,6 @@ use Rattle.machine.proofs.View.{DeltaOf, delta_of, change}
 use Rattle.machine.proofs.Store.{Answer, commit_result}
 use Rattle.machine.proofs.Reached.{keys_known}
 use Rattle.rules.specs.declared.answer.Refusal.TheVariants.{SecondToken}
-use Rattle.rules.specs.declared.answer.Checked.TheVariants.{Passed}
 use Rattle.rules.specs.Check.{instruction_at, check_graph}
 use Rattle.rules.specs.InstructionSet.{all_under}
 use Rattle.rules.specs.Run.{token_held}
@@ -74,17 +76,17 @@ counted M s τ e x distinct below h = go (delta_of M e) refl (rw h at (commit_re
 
 -- ---- over the rules
 
-one_new : (t : List Range) (q : Option Range) (keys : List (Key Tag)) → length (send_new t q keys).added ≤ 1
+one_new : (t : List Range) (q : code.Option Range) (keys : List (Key Tag)) → length (send_new t q keys).added ≤ 1
 unfolding send_new
-one_new t none keys = zero-le
-one_new t (some r) keys = omega arith
+one_new t None keys = zero-le
+one_new t (Some r) keys = omega arith
 
 one_of : (o : Operation) (g : List Instruction) (named : List NamedArray) (cells : ℕ) (t : List Range) (τ : Tag) (r : Instruction) (a b : ℤ) (keys : List (Key Tag)) → length (range_step o g named cells t τ r a b keys).added ≤ 1
 unfolding range_step
 one_of Operations.Copy g named cells t τ r a b keys = zero-le
 one_of Operations.Sink g named cells t τ r a b keys = zero-le
 one_of Operations.Out g named cells t τ r a b keys = zero-le
-one_of Operations.Const g named cells t τ r a b keys = one_new t (some (single r.constant)) keys
+one_of Operations.Const g named cells t τ r a b keys = one_new t (Some (single r.constant)) keys
 one_of Operations.Switch g named cells t τ r a b keys = zero-le
 one_of Operations.Gate g named cells t τ r a b keys = zero-le
 one_of Operations.Next g named cells t τ r a b keys = zero-le
@@ -96,7 +98,7 @@ one_of (Operations.OnTwo o) g named cells t τ r a b keys = one_new t (range_of 
 one_of (Operations.OnConstant o) g named cells t τ r a b keys = one_new t (range_of o (meaning t a) (single r.constant)) keys
 one_of Operations.Unknown g named cells t τ r a b keys = zero-le
 
-module _ (graph : List ℕ) (passed : check_graph graph ≡ Passed) (tables ledger cells : List ℕ) (used : ℕ) (t : List Range) (τ : Tag) where
+module _ (graph : List ℕ) (passed : check_graph graph ≡ Ok tt) (tables ledger cells : List ℕ) (used : ℕ) (t : List Range) (τ : Tag) where
   abbrev g : List Instruction
   g = graph_of graph
 

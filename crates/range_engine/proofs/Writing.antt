@@ -1,5 +1,6 @@
 -- From a run over handles to what a range run leaves: as ranges (`as_ranges`), settled by the order (`left_by`), from inputs (`told_first`), in bytes (`written_as`),
 -- and that checked inputs as handles stand for the range run's first state (`inputs_stand`). Assumes nothing.
+use Rattle.std.proofs.Common.{Ok, Err}
 use Prim.Native.Nat.{ℕ, ◌+◌, ◌-◌, ◌*◌, ◌/◌, ◌%◌, ◌≤◌}
 use mathlib.Core.Path.{◌≡◌, refl, sym, ap, subst, ◌∙◌}
 use mathlib.Core.List.{List, [], ◌∷◌, ◌++◌, map, append-nil}
@@ -28,10 +29,8 @@ use Rattle.machine.specs.InStep.{RelatedState}
 use Rattle.machine.specs.Handles.{StandsAt, changed_to, meant_content, cell_by, state_by, Tabled, run_on}
 use Rattle.rules.specs.declared.answer.Refusal.{Refusal}
 use Rattle.rules.specs.declared.answer.Answer.{Answer}
-use Rattle.rules.specs.declared.answer.Checked.{Checked}
-use Rattle.rules.specs.declared.answer.Checked.TheVariants.{Passed, Failed}
 use Rattle.rules.specs.declared.answer.Refusal.TheVariants.{BadInput}
-use Rattle.rules.specs.Check.{demand, ◌and_then◌, in_turn, check_graph, check_arrays, good_input, check_inputs, most_cells}
+use Rattle.rules.specs.Check.{demand, ◌and_then◌, in_turn, check_graph, check_arrays, good_input, check_inputs, most_cells, Checked, fault_at}
 use Rattle.rules.specs.Bounded.{and_bound}
 use Rattle.rules.specs.InstructionSet.{machine_of}
 use Rattle.rules.specs.Run.{picks_of, token_held, cell_held, first_state}
@@ -50,8 +49,8 @@ use Rattle.fire.specs.Running.{state_in}
 use Rattle.start.specs.Begun.{Accepted, Begun}
 use Rattle.engine.specs.declared.choice.Order.{Order}
 use Rattle.engine.specs.declared.choice.Order.TheVariants.{Oldest, Picks, Log, Free}
-use Rattle.engine.specs.Turns.{chooser_for, ByPicks, ByBound, Bounding, Proceeded, SettledBy}
-use Rattle.engine.proofs.Bounding.{settled_end}
+use Rattle.engine.specs.Turns.{chooser_for, ByPicks, ByBound, Bounding, Proceeded}
+use Rattle.engine.proofs.Bounding.{SettledBy, settled_end}
 use Rattle.range_table.specs.Table.{table_of}
 use Rattle.range_inputs.specs.Handles.{handles_of, check_proper, Narrow}
 use Rattle.range_inputs.proofs.Rows.{fields_each, handles_count}
@@ -216,7 +215,7 @@ rests_state M f s = go (enabled M s)
     go [] = refl
     go (a ∷ more) = refl
 
-first_stands : (g : List Instruction) (capacity n : ℕ) (inputs : List ℕ) → check_range_inputs g capacity inputs ≡ Passed → StandsFor (first_table inputs) (first_ranges inputs n) (first_handles inputs n)
+first_stands : (g : List Instruction) (capacity n : ℕ) (inputs : List ℕ) → check_range_inputs g capacity inputs ≡ Ok tt → StandsFor (first_table inputs) (first_ranges inputs n) (first_handles inputs n)
 unfolding handle_run run_on run_from first_table
 first_stands g capacity n inputs passed =
     let M = range_machine_of g [] capacity n in
@@ -229,8 +228,8 @@ first_stands g capacity n inputs passed =
           (subst (λ (s : State Tag Range). RelatedState (StandsAt nat_abs (first_table inputs)) s (rests_at N 0 (first_handles inputs n)).state) (rests_state M 0 (first_ranges inputs n)) none-fires.state);
     }
 
-module _ (graph arrays inputs : List ℕ) (ledger cells : ℕ) (lent : LentToRanges graph arrays (length inputs) ledger cells) (passed : check_range_inputs (graph_of graph) (range_capacity_of ledger) inputs ≡ Passed) where
-  proper : check_proper inputs ≡ Passed
+module _ (graph arrays inputs : List ℕ) (ledger cells : ℕ) (lent : LentToRanges graph arrays (length inputs) ledger cells) (passed : check_range_inputs (graph_of graph) (range_capacity_of ledger) inputs ≡ Ok tt) where
+  proper : check_proper inputs ≡ Ok tt
   unfolding check_range_inputs
   proper =
       let six = and_then_passed (in_turn (λ i good. demand good BadInput i) 0 (all_rows range_token_width (good_input (graph_of graph)) inputs)) _ passed in
@@ -242,7 +241,7 @@ module _ (graph arrays inputs : List ℕ) (ledger cells : ℕ) (lent : LentToRan
     graph_passed = lent.graph_passed;
     few_arrays = lent.few_arrays;
     inputs_passed =
-        subst (λ (p : ℕ). check_inputs (graph_of graph) p (handles_of inputs) ≡ Passed) (sym (mul-div_cancel (ledger / range_token_width) (omega arith)))
+        subst (λ (p : ℕ). check_inputs (graph_of graph) p (handles_of inputs) ≡ Ok tt) (sym (mul-div_cancel (ledger / range_token_width) (omega arith)))
         (sym (same_fields inputs (handles_of inputs) (fields_each inputs) (graph_of graph) (range_capacity_of ledger) proper) ∙ passed);
     few = omega (arith, lent.few);
     cell_records = (omega arith, omega (arith, lent.few_cells));
@@ -266,7 +265,7 @@ only_handles inputs handles handles' table table' e w =
 -- ---- the checks
 
 module _ (graph arrays : List ℕ) (inputs picks k ledger cells : ℕ) where
-  pub lent_passed : ranges_lent_checked graph arrays inputs picks k ledger cells ≡ Passed → LentToRanges graph arrays inputs ledger cells
+  pub lent_passed : ranges_lent_checked graph arrays inputs picks k ledger cells ≡ Ok tt → LentToRanges graph arrays inputs ledger cells
   unfolding check_range_stores and_bound
   lent_passed e =
       let a = and_then_passed (check_graph graph) _ e in
@@ -286,19 +285,19 @@ module _ (graph arrays : List ℕ) (inputs picks k ledger cells : ℕ) where
       few_whole width most n h = leb-true (n / width) most (and_true_right (eqb (n % width) 0) _ h)
 
 joined : (a b c d : Checked) → ((a and_then b and_then c) and_then d) ≡ (a and_then b and_then c and_then d)
-joined (Failed r p) b c d = refl
-joined Passed (Failed r p) c d = refl
-joined Passed Passed c d = refl
+joined (Err fault) b c d = refl
+joined (Ok _) (Err fault) c d = refl
+joined (Ok _) (Ok _) c d = refl
 
 module _ (graph arrays inputs picks : List ℕ) (budget k ledger cells : ℕ) where
   parts : check_ranges graph arrays inputs picks k ledger cells ≡ (ranges_lent_checked graph arrays (length inputs) (length picks) k ledger cells and_then check_range_inputs (graph_of graph) (range_capacity_of ledger) inputs)
   unfolding check_ranges
   parts = sym (joined (check_graph graph) (and_bound (check_range_stores (length inputs) (length picks) ledger cells) k) (check_arrays (graph_of graph) (cells / range_cell_width) arrays) (check_range_inputs (graph_of graph) (range_capacity_of ledger) inputs))
 
-  pub result_failed : {r : Refusal} {p : ℕ} → ranges_lent_checked graph arrays (length inputs) (length picks) k ledger cells ≡ Failed r p → range_result graph arrays inputs picks budget k ledger cells ≡ refused_at_once r p
+  pub result_failed : {r : Refusal} {p : ℕ} → ranges_lent_checked graph arrays (length inputs) (length picks) k ledger cells ≡ Err (fault_at r p) → range_result graph arrays inputs picks budget k ledger cells ≡ refused_at_once r p
   unfolding range_result ranges_unless_failed
   result_failed e = rw (parts, e)
 
-  pub result_passed : ranges_lent_checked graph arrays (length inputs) (length picks) k ledger cells ≡ Passed → range_result graph arrays inputs picks budget k ledger cells ≡ with_inputs k picks budget graph arrays inputs ledger cells
+  pub result_passed : ranges_lent_checked graph arrays (length inputs) (length picks) k ledger cells ≡ Ok tt → range_result graph arrays inputs picks budget k ledger cells ≡ with_inputs k picks budget graph arrays inputs ledger cells
   unfolding range_result
   result_passed e = rw (parts, e)

@@ -1,6 +1,6 @@
 -- Working definition: no public promise cites it.
 -- A range run over handles, from turn to turn, and what it tells of the run over ranges. Assumes nothing.
-use Rattle.std.specs.Prelude.{ℕ, ◌+◌, ◌*◌, ◌/◌, ◌≤◌, ◌≡◌, List, [], ◌++◌, length, ℤ, pos, nat_abs}
+use Rattle.std.specs.Prelude.{ℕ, ◌+◌, ◌*◌, ◌/◌, ◌≤◌, ◌≡◌, List, [], ◌++◌, length, ℤ, pos, nat_abs, Ok}
 use Rattle.record.specs.declared.array.NamedArray.{NamedArray}
 use Rattle.record.specs.declared.tag.Tag.{Tag}
 use Rattle.record.specs.declared.instruction.Instruction.{Instruction}
@@ -18,9 +18,7 @@ use Rattle.machine.specs.InStep.{RelatedState}
 use Rattle.machine.specs.Handles.{StandsAt, state_by, Tabled, run_on}
 use Rattle.rules.specs.declared.answer.Refusal.{Refusal}
 use Rattle.rules.specs.declared.answer.Answer.{Answer}
-use Rattle.rules.specs.declared.answer.Checked.{Checked}
-use Rattle.rules.specs.declared.answer.Checked.TheVariants.{Passed}
-use Rattle.rules.specs.Check.{◌and_then◌, check_graph, check_arrays, most_cells}
+use Rattle.rules.specs.Check.{◌and_then◌, check_graph, check_arrays, most_cells, Checked}
 use Rattle.rules.specs.InstructionSet.{effect_in}
 use Rattle.rules.specs.Run.{picks_of, outcome_of, first_state}
 use Rattle.rules.specs.Held.{held_in}
@@ -133,7 +131,7 @@ Leaves k picks budget graph arrays handles table r ledger cells ledger' cells' =
 
 -- everything but the inputs passed its check; ledger and cells by their lengths in bytes
 pub record LentToRanges (graph arrays : List ℕ) (inputs ledger cells : ℕ) : Type 0 where
-  pub graph_passed : check_graph graph ≡ Passed
+  pub graph_passed : check_graph graph ≡ Ok tt
   pub few_arrays : length arrays / array_width ≤ most_arrays
   pub few_inputs : inputs / range_token_width ≤ most_tokens
   pub few : range_capacity_of ledger ≤ most_tokens

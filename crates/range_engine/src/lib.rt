@@ -19,7 +19,8 @@ use crate::turns::{Going, Ran};
 use checks::{bound, stores};
 use record::{cell, token};
 use rules::answer;
-use rules::answer::{Answer, Checked, Refusal};
+use rules::answer::{Answer, Fault, Refusal};
+use store_flags::Flags;
 
 // From the inputs as handles, in a ledger and cells of its own.
 fn over_handles(
@@ -42,7 +43,7 @@ fn over_handles(
 {
     let mut tables = [0u16; store_enabled::TABLES_LENGTH];
     let mut links = [0u16; store_chains::LENGTH];
-    let mut flags = [0u64; store_flags::LENGTH];
+    let mut flags = Flags::new();
     let used = start::begin(
         graph,
         arrays,
@@ -161,8 +162,8 @@ fn handled(
     let capacity = ledger.len() / range_output::TOKEN_WIDTH;
     let checked = range_inputs::check(graph, inputs, handles, capacity);
     match checked {
-        Checked::Failed(r, place) => answer::refused(r, place),
-        Checked::Passed => accepted(
+        Err(fault) => answer::refused(fault),
+        Ok(()) => accepted(
             graph, arrays, handles, picks, budget, bound, table, ledger, cells,
         ),
     }
@@ -202,7 +203,7 @@ fn with_inputs(
 }
 
 // Refusal 7, by the lengths in bytes.
-fn check_stores(inputs: usize, picks: usize, ledger: usize, cells: usize) -> Checked
+fn check_stores(inputs: usize, picks: usize, ledger: usize, cells: usize) -> Result<(), Fault>
     ensures { result ≡ check_range_stores inputs picks ledger cells }
 {
     if stores::all_whole(
@@ -213,9 +214,9 @@ fn check_stores(inputs: usize, picks: usize, ledger: usize, cells: usize) -> Che
         ledger,
         cells,
     ) {
-        Checked::Passed
+        Ok(())
     } else {
-        Checked::Failed(Refusal::BadStore, 0)
+        Err(Refusal::BadStore.at(0))
     }
 }
 
@@ -228,7 +229,7 @@ fn check_lent(
     bound: usize,
     ledger: usize,
     cells: usize,
-) -> Checked
+) -> Result<(), Fault>
     ensures { result ≡ ranges_lent_checked graph.now arrays.now inputs picks bound ledger cells }
 {
     let of_stores = bound::check(check_stores(inputs, picks, ledger, cells), bound);
@@ -260,8 +261,8 @@ pub fn run_ranges(
         cells.len(),
     );
     match checked {
-        Checked::Failed(r, place) => answer::refused(r, place),
-        Checked::Passed => with_inputs(
+        Err(fault) => answer::refused(fault),
+        Ok(()) => with_inputs(
             graph,
             arrays,
             inputs,

@@ -1,5 +1,5 @@
 // The turns of a range run: the engine's choices, fired over handles, until the run is at its end.
-ghost use Rattle.std.specs.Prelude.{◌/◌, ◌<◌, ◌≡◌, length};
+ghost use Rattle.std.specs.Prelude.{◌/◌, ◌<◌, ◌≡◌, length, Some};
 ghost use Rattle.record.specs.GraphRecords.{graph_of};
 ghost use Rattle.record.specs.Widths.{token_width, cell_width};
 ghost use Rattle.abstraction.specs.Tables.{arrays_in};
@@ -9,10 +9,9 @@ ghost use Rattle.range_table.specs.Table.{table_of};
 ghost use Rattle.range_fire.specs.Tried.{RoomForOne, step_at};
 ghost use Rattle.range_engine.specs.Over.{TakenAs, Room, end_over, RanOver, Tells, Fits};
 
-use engine::choice::{Choice, Order};
-use engine::turns::Turn;
+use engine::choice::Order;
+use engine::turns::Fired;
 use engine::{choice, turns};
-use fire_commit::Fired;
 use rules::answer::{Answer, Outcome};
 use store_chains::Links;
 use store_enabled::Tables;
@@ -21,7 +20,7 @@ use store_flags::Flags;
 // A turn, and how many ranges the table has after it.
 #[derive(Clone, Copy)]
 pub struct Taken {
-    pub turn: Turn,
+    pub turn: Result<Fired, Outcome>,
     pub count: usize,
 }
 
@@ -70,7 +69,7 @@ fn take_turn(
 ) -> Taken
     requires { Prepared graph.now tables.now
         × Running (graph_of graph.now) tables.now links.old flags.old ledger.old cells.old used
-        × HeldBeside order flags.old held.now
+        × HeldBeside order flags.old (Some held.now)
         × HeldBack order (graph_of graph.now) flags.old held.now ledger.old used
         × RoomForOne table.old count }
     ensures { TakenAs result (graph_of graph.now)
@@ -81,24 +80,33 @@ fn take_turn(
         table.new used ledger.old cells.old table.old count }
 {
     let chosen = choice::choose(
-        order, picks, firings, tables, links, flags, held, ledger, used,
+        order,
+        picks,
+        firings,
+        tables,
+        links,
+        flags,
+        Some(held),
+        ledger,
+        used,
     );
+    // No `?`: the count of ranges goes along with a turn that ends the run, too.
     let place = match chosen {
-        Choice::Ended(outcome) => {
+        Ok(place) => place,
+        Err(outcome) => {
             return Taken {
-                turn: Turn::Ended(outcome),
+                turn: Err(outcome),
                 count,
             }
         }
-        Choice::At(place) => place,
     };
     let tried = range_fire::fire(
         graph, tables, table, count, links, flags, ledger, cells, used, place,
     );
     let fired = tried.fired;
     let turn = match fired {
-        Fired::Done(n) => Turn::Fired(n, place),
-        Fired::Refused(r) => Turn::Ended(Outcome::Refused(r, place)),
+        Ok(used) => Ok(Fired { place, used }),
+        Err(r) => Err(Outcome::Refused(r, place)),
     };
     Taken {
         turn,
@@ -137,8 +145,7 @@ fn turns(
     let budget = going.budget;
     let mut used = going.used;
     let mut count = going.count;
-    let mut firings = 0;
-    while firings < budget {
+    for firings in 0..budget {
         let taken = take_turn(
             graph, tables, order, picks, firings, table, count, links, flags, held, ledger, cells,
             used,
@@ -146,18 +153,21 @@ fn turns(
         let turned = taken.turn;
         count = taken.count;
         match turned {
-            Turn::Fired(n, place) => {
-                turns::follow(
-                    order, graph, tables, flags, ledger, used, n, place, nexts, held, marks,
-                );
+            Ok(fired) => {
+                let place = fired.place;
+                let n = fired.used;
+                if let Order::Free(bound) = order {
+                    turns::follow(
+                        bound, graph, tables, flags, ledger, used, n, place, nexts, held, marks,
+                    );
+                }
                 used = n;
-                firings += 1;
             }
-            Turn::Ended(outcome) => return answered(outcome, firings, used, count),
+            Err(outcome) => return answered(outcome, firings, used, count),
         }
     }
     let outcome = ending::rest(tables, flags, ledger, used);
-    answered(outcome, firings, used, count)
+    answered(outcome, budget, used, count)
 }
 
 // A run goes on from a state under picks, with a bound or, where it is 0, without one. No other function calls the loop, so the compiler makes it part of
@@ -183,20 +193,28 @@ pub fn proceed(
         (state_in ledger.old cells.old going.used) result ledger.new cells.new table.new }
     ensures fits { Fits result ledger.new cells.new table.new ledger.old cells.old table.old }
 {
-    let mut nexts = [0u64; store_flags::LENGTH];
-    let mut held = [0u64; store_flags::LENGTH];
+    let mut nexts = Flags::new();
+    let mut held = Flags::new();
     let mut marks = [0u16; 4096];
     let order = choice::order_under(picks, bound);
-    turns::hold_first(
-        order, graph, tables, flags, ledger, going.used, &mut nexts, &mut held, &mut marks,
-    );
+    if let Order::Free(bound) = order {
+        turns::hold_first(
+            bound, graph, tables, flags, ledger, going.used, &mut nexts, &mut held, &mut marks,
+        );
+    }
     let ran = turns(
         graph, tables, order, picks, table, links, flags, &mut nexts, &mut held, &mut marks,
         ledger, cells, going,
     );
     let own = ran.answer;
+    let answer = match order {
+        Order::Free(_) => turns::settle(tables, flags, &held, ledger, own),
+        Order::Oldest => own,
+        Order::Picks => own,
+        Order::Log => own,
+    };
     Ran {
-        answer: turns::settle_by(order, tables, flags, &held, ledger, own),
+        answer,
         count: ran.count,
     }
 }

@@ -1,10 +1,12 @@
 -- A firing over handles, from matching to output: the operation is refused (`refused_first_lem`), or the new tags are (`refused_second`), or what the step asks for
 -- is committed (`committed`). The commit is that of `fire`, whatever was asked for. Assumes nothing.
+use Rattle.std.proofs.Common.{Ok}
 use Prim.Native.Nat.{ℕ, ◌/◌, ◌<◌}
 use mathlib.Core.Path.{◌≡◌, sym, ap, subst, ◌∙◌}
 use mathlib.Core.List.{List, ◌++◌}
 use lib.ListN.{length}
 use lib.IntN.{ℤ}
+use Rattle.std.specs.Prelude.{Ok, Err, Result}
 use Rattle.record.specs.declared.tag.Tag.{Tag}
 use Rattle.record.specs.declared.array.NamedArray.{NamedArray}
 use Rattle.record.specs.declared.token.Token as Record
@@ -16,7 +18,6 @@ use Rattle.record.specs.Widths.{token_width, cell_width, graph_width}
 use Rattle.arithmetic.specs.declared.Range.{Range}
 use Rattle.machine.specs.Machine.{refuse}
 use Rattle.rules.specs.declared.answer.Refusal.{Refusal}
-use Rattle.rules.specs.declared.answer.Checked.TheVariants.{Passed}
 use Rattle.rules.specs.Check.{check_graph}
 use Rattle.rules.specs.InstructionSet.{arity_in}
 use Rattle.rules.specs.RangeHandles.{StepHere, meaning, step_in}
@@ -24,16 +25,11 @@ use Rattle.abstraction.specs.Tables.{arrays_in}
 use Rattle.abstraction.proofs.Arities.{arity_small}
 use Rattle.fire_effect.specs.declared.output.Outputs.{Outputs}
 use Rattle.fire_effect.specs.declared.operate.Action.{Action}
-use Rattle.fire_effect.specs.declared.operate.Operated.TheVariants.{Refuse, Act}
-use Rattle.fire_effect.specs.declared.tags.NewTags.{NewTags}
-use Rattle.fire_effect.specs.declared.tags.NewTags.TheVariants as Tags
 use Rattle.fire_effect.specs.Effects.{output_keys, action_held, Arrives, Makes, new_tags_of, then_tags}
 use Rattle.fire_effect.proofs.Passed.{in_bytes}
 use Rattle.fire_effect.proofs.Parted.{first_refused, second_refused, both_held}
 use Rattle.fire_operands.specs.Operands.{by_port, both_at, matched_at}
 use Rattle.fire_outputs.specs.Outputs.{cells_in}
-use Rattle.fire_commit.specs.declared.Fired.{Fired}
-use Rattle.fire_commit.specs.declared.Fired.TheVariants.{Refused}
 use Rattle.fire_commit.specs.Commit.{Committed, committed_of, CommittedTo, Fitting}
 use Rattle.fire.specs.Running.{Running, Stepped, Prepared}
 use Rattle.fire.proofs.Steps.{low_ports, sent_keys, on_cells, Done, there, stepped, inside, asks_refusal, committed_by_port}
@@ -60,14 +56,14 @@ module _ (graph : List ℕ) (table : List NamedArray) (cells : ℕ) (τ : Tag) (
   asked_in_turn : (step_in (graph_of graph) table cells h τ a b).asked ≡ then_tags (ask_of o table r.constant cells h a b).operated (new_tags_of o (graph_of graph) τ r (meaning h b).low)
   asked_in_turn = ap (λ (x : StepHere). x.asked) in_turn_lem
 
-  pub asked_refused : {q : Refusal} → (ask_of o table r.constant cells h a b).operated ≡ Refuse q → (step_in (graph_of graph) table cells h τ a b).asked ≡ refuse q
+  pub asked_refused : {q : Refusal} → (ask_of o table r.constant cells h a b).operated ≡ Err q → (step_in (graph_of graph) table cells h τ a b).asked ≡ refuse q
   asked_refused e = first_refused _ _ asked_in_turn e
 
-  module _ {x : Action} (operated : (ask_of o table r.constant cells h a b).operated ≡ Act x) {m : NewTags} (made : Makes m (new_tags_of o (graph_of graph) τ r (meaning h b).low)) where
-    pub tags_refused : {q : Refusal} → m ≡ Tags.Refuse q → (step_in (graph_of graph) table cells h τ a b).asked ≡ refuse q
+  module _ {x : Action} (operated : (ask_of o table r.constant cells h a b).operated ≡ Ok x) {m : Result Outputs Refusal} (made : Makes m (new_tags_of o (graph_of graph) τ r (meaning h b).low)) where
+    pub tags_refused : {q : Refusal} → m ≡ Err q → (step_in (graph_of graph) table cells h τ a b).asked ≡ refuse q
     tags_refused e = second_refused _ _ asked_in_turn operated made e
 
-    pub asked_done : check_graph graph ≡ Passed → {s : Outputs} → m ≡ Tags.To s → Done (graph_of graph) cells x s (step_in (graph_of graph) table cells h τ a b).asked
+    pub asked_done : check_graph graph ≡ Ok tt → {s : Outputs} → m ≡ Ok s → Done (graph_of graph) cells x s (step_in (graph_of graph) table cells h τ a b).asked
     asked_done passed {s} e =
         let held : action_held x (output_keys s) ≡ (step_in (graph_of graph) table cells h τ a b).asked = both_held _ _ asked_in_turn operated made e in
         let fine : Fine (graph_of graph) cells (step_in (graph_of graph) table cells h τ a b).asked = asked_fine graph passed table cells τ h a b in
@@ -118,7 +114,7 @@ module _ (graph : List ℕ) {tables links flags ledger cells : List ℕ} {used :
   asked_found : x.asked ≡ (step_in (graph_of graph) (arrays_in tables) (length cells / cell_width) h t.tag v w).asked
   asked_found = ap (λ (y : StepHere). y.asked) step_found
 
-  tried : (f : Fired) {links' flags' ledger' cells' : List ℕ} → Stepped f (graph_of graph) τ x.asked tables links' flags' ledger' cells' used ledger cells
+  tried : (f : Result ℕ Refusal) {links' flags' ledger' cells' : List ℕ} → Stepped f (graph_of graph) τ x.asked tables links' flags' ledger' cells' used ledger cells
       → TriedAs (record { fired = f; count = asked.count }) (graph_of graph) τ x tables links' flags' ledger' cells' table' used ledger cells table count
   tried f s = record {
     stepped = s;
@@ -129,19 +125,19 @@ module _ (graph : List ℕ) {tables links flags ledger cells : List ℕ} {used :
   }
 
   stops : {q : Refusal} → (step_in (graph_of graph) (arrays_in tables) (length cells / cell_width) h t.tag v w).asked ≡ refuse q
-      → TriedAs (record { fired = Refused q; count = asked.count }) (graph_of graph) τ x tables links flags ledger cells table' used ledger cells table count
-  stops {q} e = tried (Refused q) (asks_refusal graph ready now place within τ (asked_found ∙ e))
+      → TriedAs (record { fired = Err q; count = asked.count }) (graph_of graph) τ x tables links flags ledger cells table' used ledger cells table count
+  stops {q} e = tried (Err q) (asks_refusal graph ready now place within τ (asked_found ∙ e))
 
   -- the operation is refused
-  pub refused_first_lem : {q : Refusal} → asked.operated ≡ Refuse q → TriedAs (record { fired = Refused q; count = asked.count }) (graph_of graph) τ x tables links flags ledger cells table' used ledger cells table count
+  pub refused_first_lem : {q : Refusal} → asked.operated ≡ Err q → TriedAs (record { fired = Err q; count = asked.count }) (graph_of graph) τ x tables links flags ledger cells table' used ledger cells table count
   refused_first_lem e = stops (asked_refused graph (arrays_in tables) (length cells / cell_width) t.tag within_graph h v w r o fetched decoded (sym asks.operated ∙ e))
 
-  module _ {y : Action} (acts : asked.operated ≡ Act y) {m : NewTags} (made : Makes m (new_tags_of o (graph_of graph) t.tag r (meaning (table_of count table) w).low)) where
+  module _ {y : Action} (acts : asked.operated ≡ Ok y) {m : Result Outputs Refusal} (made : Makes m (new_tags_of o (graph_of graph) t.tag r (meaning (table_of count table) w).low)) where
     -- the new tags are refused
-    pub refused_second : {q : Refusal} → m ≡ Tags.Refuse q → TriedAs (record { fired = Refused q; count = asked.count }) (graph_of graph) τ x tables links flags ledger cells table' used ledger cells table count
+    pub refused_second : {q : Refusal} → m ≡ Err q → TriedAs (record { fired = Err q; count = asked.count }) (graph_of graph) τ x tables links flags ledger cells table' used ledger cells table count
     refused_second e = stops (tags_refused graph (arrays_in tables) (length cells / cell_width) t.tag within_graph h v w r o fetched decoded (sym asks.operated ∙ acts) made e)
 
-    module _ {s : Outputs} (to : m ≡ Tags.To s) where
+    module _ {s : Outputs} (to : m ≡ Ok s) where
       does : Done (graph_of graph) (length cells / cell_width) y s (step_in (graph_of graph) (arrays_in tables) (length cells / cell_width) h t.tag v w).asked
       does = asked_done graph (arrays_in tables) (length cells / cell_width) t.tag within_graph h v w r o fetched decoded (sym asks.operated ∙ acts) made ready.passed to
 
@@ -150,7 +146,7 @@ module _ (graph : List ℕ) {tables links flags ledger cells : List ℕ} {used :
       fits_commit = fitting (graph_of graph) (length cells / cell_width) y s does
 
       -- from matching to output
-      pub committed : (links' flags' ledger' cells' : List ℕ) (f : Fired)
+      pub committed : (links' flags' ledger' cells' : List ℕ) (f : Result ℕ Refusal)
           → CommittedTo f (committed_of (length ledger / token_width) (tokens used ledger) (cells_in cells) place other y s) tables links' flags' ledger' cells' used ledger cells
           → TriedAs (record { fired = f; count = asked.count }) (graph_of graph) τ x tables links' flags' ledger' cells' table' used ledger cells table count
       committed links' flags' ledger' cells' f left =

@@ -2,19 +2,15 @@
 // tags are given the low value of a SWITCH's control, which is decided by then.
 #![tactic(auto)]
 
-ghost use Rattle.std.specs.Prelude.{◌<◌, ◌≡◌, true};
+ghost use Rattle.std.specs.Prelude.{◌<◌, ◌≡◌, true, Err};
 ghost use Rattle.record.specs.GraphRecords.{graph_of};
 ghost use Rattle.record.specs.TokensAndTags.{tokens, token_at};
 ghost use Rattle.store_enabled.specs.Enabled.{leads_in};
-ghost use Rattle.fire_commit.specs.declared.Fired.TheVariants.{Refused};
 ghost use Rattle.fire.specs.Running.{Prepared, Running};
 ghost use Rattle.range_table.specs.Table.{table_of};
 ghost use Rattle.range_fire.specs.Tried.{RoomForOne, step_at, TriedAs};
 
-use fire_commit::Fired;
-use fire_effect::operate::Operated;
 use fire_effect::tags;
-use fire_effect::tags::NewTags;
 use fire_outputs::Places;
 use record::{cell, instruction, operation, token};
 use rules::answer::Refusal;
@@ -25,16 +21,16 @@ use store_flags::Flags;
 // What came of a firing, and how many ranges the table has after it.
 #[derive(Clone, Copy)]
 pub struct Tried {
-    pub fired: Fired,
+    pub fired: Result<usize, Refusal>,
     pub count: usize,
 }
 
-// A refusal, with the ranges that the table has by then.
+// A refusal, with the ranges that the table has by then: `?` would hand on the refusal alone.
 fn refused(refusal: Refusal, count: usize) -> Tried
-    ensures { result ≡ record { fired = Refused refusal; count = count } }
+    ensures { result ≡ record { fired = Err refusal; count = count } }
 {
     Tried {
-        fired: Fired::Refused(refusal),
+        fired: Err(refusal),
         count,
     }
 }
@@ -83,14 +79,14 @@ pub fn fire(
     let count = asked.count;
     let operated = asked.operated;
     let action = match operated {
-        Operated::Refuse(refusal) => return refused(refusal, count),
-        Operated::Act(action) => action,
+        Err(refusal) => return refused(refusal, count),
+        Ok(action) => action,
     };
     // New tags.
     let made = tags::new_tags(graph, tables, o, tag, r, control.low);
     let outputs = match made {
-        NewTags::Refuse(refusal) => return refused(refusal, count),
-        NewTags::To(outputs) => outputs,
+        Err(refusal) => return refused(refusal, count),
+        Ok(outputs) => outputs,
     };
     // Output.
     let fired = fire_commit::commit(

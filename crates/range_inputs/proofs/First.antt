@@ -1,4 +1,5 @@
 -- Good inputs as handles hold the state over handles from which a range run starts (`first_state_lem`). Assumes nothing.
+use Rattle.std.proofs.Common.{Ok}
 use Prim.Native.Nat.{ℕ, zero, suc, ◌+◌, ◌/◌, ◌%◌, ◌<◌, ◌≤◌}
 use mathlib.Core.Bool.{true}
 use mathlib.Core.Path.{◌≡◌, refl, sym, ap, ◌∙◌}
@@ -17,7 +18,6 @@ use Rattle.record.specs.TokensAndTags as Tokens
 use Rattle.record.specs.Widths.{token_width, range_token_width}
 use Rattle.machine.specs.Machine.{live, absent}
 use Rattle.machine.proofs.Kept.{Each}
-use Rattle.rules.specs.declared.answer.Checked.TheVariants.{Passed}
 use Rattle.rules.specs.Check.{good_input}
 use Rattle.rules.specs.Run.{token_held, first_state}
 use Rattle.rules.specs.RangeRun.{decode_range, check_range_inputs}
@@ -46,7 +46,7 @@ first_tokens g h (suc n) l rest e k =
     let there = first_tokens g (suc h) n (drop range_token_width l) rest e.1 (omega arith) in
     rw (append_assoc (handle_bytes h l) more rest, row_past h l (more ++ rest)) (λ i. here i ∷ there i)
 
-pub first_state_lem : (g : List Instruction) (capacity cells : ℕ) (inputs : List ℕ) → length inputs / range_token_width ≤ most_tokens → check_range_inputs g capacity inputs ≡ Passed
+pub first_state_lem : (g : List Instruction) (capacity cells : ℕ) (inputs : List ℕ) → length inputs / range_token_width ≤ most_tokens → check_range_inputs g capacity inputs ≡ Ok tt
     → first_state (handles_of inputs) cells ≡ first_handles inputs cells
 unfolding first_state first_handles handles_of
 first_state_lem g capacity cells inputs few e =

@@ -6,8 +6,7 @@ use Rattle.buffer.specs.Rows.{all_rows}
 use Rattle.record.specs.TokensAndTags.{most_tokens}
 use Rattle.record.specs.Widths.{token_width, value_offset, state_offset, range_token_width}
 use Rattle.rules.specs.declared.answer.Refusal.TheVariants.{Undecided}
-use Rattle.rules.specs.declared.answer.Checked.{Checked}
-use Rattle.rules.specs.Check.{demand, in_turn}
+use Rattle.rules.specs.Check.{demand, in_turn, Checked}
 use Rattle.rules.specs.RangeRun.{range_in, is_proper_range}
 use Rattle.rules.specs.RangeHandles.{first_table}
 use Rattle.range_table.specs.Table.{pair_width, table_of}

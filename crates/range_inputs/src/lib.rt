@@ -10,7 +10,7 @@ ghost use Rattle.range_inputs.specs.Handles.{handle_bytes, handles_of, check_pro
 
 use arithmetic::Range;
 use record::token;
-use rules::answer::{Checked, Refusal};
+use rules::answer::{Fault, Refusal};
 
 // The bytes of a token record of a range run, and where its values stand.
 pub const WIDTH: usize = 32;
@@ -37,17 +37,15 @@ fn is_proper(r: Range) -> bool
 }
 
 // 23, the inputs in turn: "an input whose low exceeds its high".
-fn ranges(inputs: &[u8]) -> Checked
+fn ranges(inputs: &[u8]) -> Result<(), Fault>
     ensures { result ≡ check_proper inputs.now }
 {
-    let mut i = 0;
-    while i < inputs.len() / WIDTH {
+    for i in 0..inputs.len() / WIDTH {
         if !is_proper(range_in(buffer::row_at(inputs, WIDTH, i))) {
-            return Checked::Failed(Refusal::Undecided, i);
+            return Err(Refusal::Undecided.at(i));
         }
-        i += 1;
     }
-    Checked::Passed
+    Ok(())
 }
 
 // The plain record of the fields that s starts with, with a handle in the place of the value.
@@ -93,28 +91,20 @@ pub fn narrow(inputs: &[u8], handles: &mut [u8], table: &mut [u8])
     ensures { Narrow inputs.now handles.old handles.new table.old table.new }
 {
     range_table::add(table, 0, Range { low: 0, high: 0 });
-    let mut i = 0;
-    while i < inputs.len() / WIDTH {
+    for i in 0..inputs.len() / WIDTH {
         let s = buffer::row_at(inputs, WIDTH, i);
         let row = narrowed(s, (i + 1) as u32);
         buffer::put_row(handles, token::WIDTH, i, &row);
         range_table::add(table, i + 1, range_in(s));
-        i += 1;
     }
 }
 
 // Refusals 6, 23, 8 and 9: `handles` are the inputs as handles. 6, 8 and 9 look at no value.
-pub fn check(graph: &[u8], inputs: &[u8], handles: &[u8], capacity: usize) -> Checked
+pub fn check(graph: &[u8], inputs: &[u8], handles: &[u8], capacity: usize) -> Result<(), Fault>
     requires { handles.now ≡ handles_of inputs.now }
     ensures { result ≡ check_range_inputs (graph_of graph.now) capacity inputs.now }
 {
-    let of_fields = check_inputs::fields(graph, handles);
-    let Checked::Passed = of_fields else {
-        return of_fields;
-    };
-    let of_ranges = ranges(inputs);
-    let Checked::Passed = of_ranges else {
-        return of_ranges;
-    };
+    check_inputs::fields(graph, handles)?;
+    ranges(inputs)?;
     check_inputs::check(graph, handles, capacity)
 }

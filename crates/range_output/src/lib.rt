@@ -123,11 +123,9 @@ pub fn put_tokens(table: &[u8], count: usize, ledger: &[u8], used: usize, out: &
     requires { (count * pair_width ≤ length table.now) × (used ≤ length ledger.now / token_width) × (used ≤ length out.old / range_token_width) }
     ensures { out.new ≡ written_over encode_range (tokens_meant (table_of count table.now) (tokens used ledger.now)) out.old }
 {
-    let mut i = 0;
-    while i < used {
+    for i in 0..used {
         let row = token_bytes(table, count, token::token_at(ledger, i));
         buffer::put_row(out, TOKEN_WIDTH, i, &row);
-        i += 1;
     }
 }
 
@@ -172,10 +170,8 @@ pub fn put_cells(table: &[u8], count: usize, store: &[u8], n: usize, out: &mut [
     requires { (count * pair_width ≤ length table.now) × (n ≤ length store.now / cell_width) × (n ≤ length out.old / range_cell_width) }
     ensures { out.new ≡ written_over encode_range_cell (cells_meant (table_of count table.now) (cells n store.now)) out.old }
 {
-    let mut i = 0;
-    while i < n {
+    for i in 0..n {
         let row = cell_bytes(table, count, cell::cell_at(store, i));
         buffer::put_row(out, CELL_WIDTH, i, &row);
-        i += 1;
     }
 }

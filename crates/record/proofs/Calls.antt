@@ -7,8 +7,9 @@ use Rattle.record.specs.Paths.{path_number, path_words, is_root}
 use Rattle.record.specs.Calls.{entered, enter_within, leave_of, Call, CallFits, path_of, CallLaws}
 use Rattle.record.proofs.Paths.{number_words, words_number}
 use Rattle.record.specs.declared.tag.Tag.{Tag}
-use Rattle.record.specs.declared.tag.Entered.TheVariants.{In, TooDeep}
-use Rattle.record.specs.declared.tag.Left.TheVariants.{To}
+use Rattle.record.specs.declared.tag.Caller.{Caller}
+use Rattle.std.specs.Prelude.{Option, Some, None}
+use Rattle.std.proofs.lemmas.Option.{same_Some}
 
 -- ---- one call
 
@@ -21,7 +22,7 @@ parts : (path site iteration : ℕ) → site < 256 → iteration < 256 → SiteP
 parts path site iteration s i = record { back_site = omega arith; back_path = omega arith; back_iteration = omega arith }
 
 -- leave inverts enter: site, iteration and parent come back
-pub leave_entered : (k : Tag) (site : ℕ) → k.path.low < 2 ^ 64 → k.iteration < 256 → 0 < site → site < 256 → leave_of (entered k site) ≡ To site k
+pub leave_entered : (k : Tag) (site : ℕ) → k.path.low < 2 ^ 64 → k.iteration < 256 → 0 < site → site < 256 → leave_of (entered k site) ≡ Some (record { site = site; tag = k })
 unfolding leave_of is_root
 leave_entered k site word low some small =
     let path = path_number k.path in
@@ -34,6 +35,9 @@ leave_entered k site word low some small =
       p.back_iteration,
       words_number k.path word,
     )
+
+pub same_caller : {s t : ℕ} {a b : Tag} → ◌≡◌ {A = Option Caller} (Some (record { site = s; tag = a })) (Some (record { site = t; tag = b })) → (s ≡ t) × (a ≡ b)
+same_caller e = let k = same_Some _ _ e in (ap (λ (c : Caller). c.site) k, ap (λ (c : Caller). c.tag) k)
 
 -- ---- calls within calls
 
@@ -69,14 +73,14 @@ at_least c (d ∷ ds) f = rw (pow-suc 65536 (length ds)) (omega (arith, at_least
 
 -- where there may be `levels` levels, ENTER goes in from fewer, and from no others
 pub enters : (levels : ℕ) (k : Tag) (site : ℕ) (cs : List Call) → All CallFits cs → path_number k.path ≡ path_of cs → length cs < levels
-    → enter_within levels k site ≡ In (entered k site)
+    → enter_within levels k site ≡ Some (entered k site)
 unfolding enter_within
 enters levels k site cs f e h =
     let powers : 65536 ^ length cs ≤ 65536 ^ (levels - 1) = pow-le-pow_right {n = 65536} (omega arith) {i = length cs} {j = levels - 1} (omega arith) in
     rw (lt-ltb (path_number k.path) (65536 ^ (levels - 1)) (omega (arith, below cs f)))
 
 pub too_deep_lem : (levels : ℕ) (k : Tag) (site : ℕ) (cs : List Call) → All CallFits cs → path_number k.path ≡ path_of cs → 0 < levels → levels ≤ length cs
-    → enter_within levels k site ≡ TooDeep
+    → enter_within levels k site ≡ None
 unfolding enter_within
 too_deep_lem levels k site [] f e s h = absurd (omega arith)
 too_deep_lem levels k site (c ∷ cs) f e s h =
@@ -90,7 +94,7 @@ entered_path_lem k site cs e = number_words (path_number k.path * 65536 + site *
 
 -- and LEAVE gives back the newest of them, with the path of the others
 pub left_path_lem : (k : Tag) (c : Call) (cs : List Call) → CallFits c → path_number k.path ≡ path_of (c ∷ cs)
-    → leave_of k ≡ To c.site (record { path = path_words (path_of cs); iteration = c.iteration; instruction = k.instruction })
+    → leave_of k ≡ Some (record { site = c.site; tag = record { path = path_words (path_of cs); iteration = c.iteration; instruction = k.instruction } })
 unfolding leave_of is_root
 left_path_lem k c cs f e =
     let p = parts (path_of cs) c.site c.iteration f.site f.iteration in

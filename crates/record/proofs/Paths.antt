@@ -1,8 +1,11 @@
 -- The number of a path and its two words: each gives the other, whatever the number is. How ENTER and LEAVE move the words. Assumes nothing.
-use Rattle.std.proofs.Common.{◌≡◌, ℕ, ◌+◌, ◌-◌, ◌*◌, ◌/◌, ◌%◌, ◌^◌, ◌<◌, ◌≤◌, Bool, true, false, ◌&&◌, eqb, sym, refl, ap, ◌∙◌, arith, le-ltb, lt-ltb, eq-eqb, ne_eqb, eqb-true}
+use Rattle.std.proofs.Common.{◌≡◌, ℕ, ◌+◌, ◌-◌, ◌*◌, ◌/◌, ◌%◌, ◌^◌, ◌<◌, ◌≤◌, Bool, true, false, ◌&&◌, eqb, sym, refl, ap, ◌∙◌, arith, eq-eqb, ne_eqb, eqb-true}
 use borrow.Author.Tests.{eqb-false}
 use Rattle.record.specs.declared.tag.Path.{Path}
-use Rattle.record.specs.declared.tag.Compared.TheVariants.{Before, Same, Behind}
+use Rattle.std.specs.declared.cmp.Ordering.{Ordering}
+use Rattle.std.specs.declared.cmp.Ordering.TheVariants.{Less, Equal, Greater}
+use Rattle.std.specs.Ordering.{MatchOrdering, nat_cmp, ordering_then}
+use Rattle.std.specs.Cmp.{nat_cmp_is, ranks}
 use Rattle.record.specs.Calls.{most_levels}
 use Rattle.record.specs.Paths.{path_number, path_words, root_path, is_root, same_path, compared_paths, PathFits}
 
@@ -68,30 +71,17 @@ number_tells a b f g e = sym (words_number a f.low) ∙ ap path_words e ∙ word
 
 -- ---- the order of two paths: the higher words decide, and where these are equal, the lower ones
 
-module _ (a b : Path) where
-  pub compared_before : path_number a < path_number b → compared_paths a b ≡ Before
-  unfolding compared_paths
-  compared_before h = rw (ne_eqb (path_number a) (path_number b) (λ e. omega arith), lt-ltb (path_number a) (path_number b) h)
-
-  pub compared_behind : path_number b < path_number a → compared_paths a b ≡ Behind
-  unfolding compared_paths
-  compared_behind h = rw (ne_eqb (path_number a) (path_number b) (λ e. omega arith), le-ltb (path_number a) (path_number b) (omega arith))
-
-  pub compared_same : path_number a ≡ path_number b → compared_paths a b ≡ Same
-  unfolding compared_paths
-  compared_same e = rw (eq-eqb (path_number a) (path_number b) e)
-
-  pub higher_less : a.low < 2 ^ 64 → a.high < b.high → path_number a < path_number b
-  unfolding path_number
-  higher_less h l = omega arith
-
-  pub lower_less : a.high ≡ b.high → a.low < b.low → path_number a < path_number b
-  unfolding path_number
-  lower_less e l = omega arith
-
-  pub equal_number : a.high ≡ b.high → a.low ≡ b.low → path_number a ≡ path_number b
-  unfolding path_number
-  equal_number e l = omega arith
+pub compared_words : (a b : Path) → a.low < 2 ^ 64 → b.low < 2 ^ 64 → ordering_then (nat_cmp a.high b.high) (nat_cmp a.low b.low) ≡ compared_paths a b
+unfolding compared_paths path_number
+compared_words a b f g = nat_cmp_is _ _ _ (go _ _ (ranks a.high b.high) (ranks a.low b.low))
+  where
+    go : (h l : Ordering) → MatchOrdering h (a.high < b.high) (a.high ≡ b.high) (b.high < a.high) → MatchOrdering l (a.low < b.low) (a.low ≡ b.low) (b.low < a.low)
+        → MatchOrdering (ordering_then h l) (path_number a < path_number b) (path_number a ≡ path_number b) (path_number b < path_number a)
+    go Less l p q = omega arith
+    go Greater l p q = omega arith
+    go Equal Less p q = omega arith
+    go Equal Equal p q = omega arith
+    go Equal Greater p q = omega arith
 
 -- ---- the words of a path that ENTER makes, and of the one that LEAVE finds
 

@@ -1,11 +1,11 @@
 -- 02, R-8: "The path grows to 16 bytes, all levels but the newest four in the second 8": one number of 128 bits, held as two words of 64. The rules speak of
 -- the number alone, and nothing outside this crate and `text` names the words. Assumes nothing.
-use Rattle.std.specs.Prelude.{◌≡◌, ℕ, ◌+◌, ◌*◌, ◌/◌, ◌%◌, ◌^◌, ◌<◌, Bool, cond, ◌&&◌, ◌==◌, nat_lt}
+use Rattle.std.specs.Prelude.{◌≡◌, ℕ, ◌+◌, ◌*◌, ◌/◌, ◌%◌, ◌^◌, ◌<◌, Bool, ◌&&◌, ◌==◌}
+use Rattle.std.specs.declared.cmp.Ordering.{Ordering}
+use Rattle.std.specs.Ordering.{nat_cmp}
 use Rattle.std.proofs.Math.Decide.{ℕ_discrete}
 use Rattle.std.proofs.Common.{ap}
 use Rattle.record.specs.declared.tag.Path.{Path}
-use Rattle.record.specs.declared.tag.Compared.{Compared}
-use Rattle.record.specs.declared.tag.Compared.TheVariants.{Before, Same, Behind}
 
 -- the whole number
 unfoldable pub path_number : Path → ℕ
@@ -34,8 +34,8 @@ unfoldable pub decide_path : Discrete Path
 decide_path a b = decide_words (ℕ_discrete a.low b.low) (ℕ_discrete a.high b.high)
 
 -- a listing goes by the number
-unfoldable pub compared_paths : Path → Path → Compared
-compared_paths a b = cond (path_number a == path_number b) Same (cond (nat_lt (path_number a) (path_number b)) Before Behind)
+unfoldable pub compared_paths : Path → Path → Ordering
+compared_paths a b = nat_cmp (path_number a) (path_number b)
 
 -- one word for a path, of which the matching store makes a bucket. The higher word counts twice, so that two calls which differ in the order of two levels
 -- stand apart

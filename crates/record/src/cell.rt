@@ -40,16 +40,8 @@ pub fn decode(s: &[u8]) -> Cell
 fn bytes_of(value: u32, state: u8) -> [u8; WIDTH]
     ensures { result ≡ Cells.bytes_of_cell value state }
 {
-    [
-        (value % 256) as u8,
-        (value / 256 % 256) as u8,
-        (value / 65536 % 256) as u8,
-        (value / 65536 / 256 % 256) as u8,
-        state,
-        0,
-        0,
-        0,
-    ]
+    let [a, b, c, d] = value.to_le_bytes();
+    [a, b, c, d, state, 0, 0, 0]
 }
 
 pub fn encode(cell: Cell) -> [u8; WIDTH]

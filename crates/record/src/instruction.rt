@@ -61,25 +61,27 @@ fn bytes_of(
 ) -> [u8; WIDTH]
     ensures { result ≡ instruction_bytes code fanout first second constant zeros }
 {
-    let i = first.instruction;
-    let j = second.instruction;
+    let [first_low, first_high] = first.instruction.to_le_bytes();
+    let [second_low, second_high] = second.instruction.to_le_bytes();
+    let [a, b, c, d] = constant.to_le_bytes();
+    let [e, f, g, h] = zeros.to_le_bytes();
     [
         code,
         fanout,
         first.port,
         second.port,
-        (i % 256) as u8,
-        (i / 256 % 256) as u8,
-        (j % 256) as u8,
-        (j / 256 % 256) as u8,
-        (constant % 256) as u8,
-        (constant / 256 % 256) as u8,
-        (constant / 65536 % 256) as u8,
-        (constant / 65536 / 256 % 256) as u8,
-        (zeros % 256) as u8,
-        (zeros / 256 % 256) as u8,
-        (zeros / 65536 % 256) as u8,
-        (zeros / 65536 / 256 % 256) as u8,
+        first_low,
+        first_high,
+        second_low,
+        second_high,
+        a,
+        b,
+        c,
+        d,
+        e,
+        f,
+        g,
+        h,
     ]
 }
 

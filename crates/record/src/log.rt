@@ -13,13 +13,6 @@ pub const WIDTH: usize = 20;
 
 const ZERO: usize = 17;
 
-// What a record names.
-#[derive(Clone, Copy)]
-pub enum Named {
-    Activity(Tag),
-    Nothing,
-}
-
 // Writes the record of a tag, which is the start of a token record on port 0, as record i of a log; every other byte stays.
 pub fn put_tag(log: &mut [u8], i: usize, tag: Tag)
     requires { i < length log.old / log_width }
@@ -33,17 +26,17 @@ pub fn put_tag(log: &mut [u8], i: usize, tag: Tag)
     buffer::put_row(log, WIDTH, i, &bytes[0..WIDTH]);
 }
 
-// What record i names: nothing if it lacks its zero byte or is not whole.
-pub fn name_at(log: &[u8], i: usize) -> Named
+// The tag that record i names: none if it lacks its zero byte or is not whole.
+pub fn name_at(log: &[u8], i: usize) -> Option<Tag>
     requires { i * log_width ≤ length log.now }
     ensures { tag_named result ≡ name_of (drop (i * log_width) log.now) }
 {
     let at = i * WIDTH;
     if log.len() - at < WIDTH {
-        return Named::Nothing;
+        return None;
     }
     if log[at + ZERO] != 0 {
-        return Named::Nothing;
+        return None;
     }
-    Named::Activity(tag::decode(buffer::row_at(log, WIDTH, i)))
+    Some(tag::decode(buffer::row_at(log, WIDTH, i)))
 }

@@ -7,13 +7,6 @@ ghost use Rattle.record.specs.Widths.{pick_width};
 // The bytes of a pick.
 pub const WIDTH: usize = 2;
 
-// 01, "Firing": a pick is an unsigned 16-bit number.
-fn wide(x: u16) -> usize
-    ensures { (result ≡ x) × (result < 65536) }
-{
-    x as usize
-}
-
 // Pick number k, counted from 0, or another number once the picks have run out.
 fn pick_or(picks: &[u8], k: usize, other: u16) -> u16
     ensures { result ≡ slice_index_or (all_rows pick_width (λ b. number16 b 0) picks.now) k other }
@@ -29,5 +22,5 @@ fn pick_or(picks: &[u8], k: usize, other: u16) -> u16
 pub fn pick_at(picks: &[u8], k: usize) -> usize
     ensures { (result ≡ slice_index (all_rows pick_width (λ b. number16 b 0) picks.now) k) × (result < 65536) }
 {
-    wide(pick_or(picks, k, 0))
+    usize::from(pick_or(picks, k, 0))
 }

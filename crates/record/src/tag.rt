@@ -1,49 +1,32 @@
 // The tag of a token, read from its bytes, and how ENTER, LEAVE and NEXT make new ones.
 ghost use Rattle.std.specs.Prelude.{◌≡◌, ◌≤◌, length};
-ghost use Rattle.record.specs.Paths.{is_root, same_path, compared_paths, folded_path};
-ghost use Rattle.record.specs.TokensAndTags.{tag_in, root_of, to_of, same_tag};
+ghost use Rattle.record.specs.Paths.{is_root, compared_paths, folded_path};
+ghost use Rattle.record.specs.TokensAndTags.{tag_in, root_of, to_of};
 ghost use Rattle.record.specs.Widths.{log_width};
 ghost use Rattle.record.specs.Calls.{enter_of, leave_of, next_of};
 
+use std::cmp::Ordering;
+
 // 02, R-8: a path is a number of 128 bits, 16 to a level, the newest four levels in its lower word.
-#[derive(Clone, Copy)]
+#[derive(Clone, Copy, PartialEq, Eq)]
 pub struct Path {
     pub low: u64,
     pub high: u64,
 }
 
-// Where a path stands to another.
-#[derive(Clone, Copy)]
-pub enum Compared {
-    Before,
-    Same,
-    Behind,
-}
-
 // 01, "Tokens and tags": a tag is path, iteration and instruction.
-#[derive(Clone, Copy)]
+#[derive(Clone, Copy, PartialEq, Eq)]
 pub struct Tag {
     pub path: Path,
     pub iteration: u8,
     pub instruction: u16,
 }
 
+// Where a path was entered from: the site, and the tag there.
 #[derive(Clone, Copy)]
-pub enum Entered {
-    In(Tag),
-    TooDeep,
-}
-
-#[derive(Clone, Copy)]
-pub enum Left {
-    To { site: u8, tag: Tag },
-    NoCaller,
-}
-
-#[derive(Clone, Copy)]
-pub enum Next {
-    Is(Tag),
-    Last,
+pub struct Caller {
+    pub site: u8,
+    pub tag: Tag,
 }
 
 // A path whose higher word is this or above has as many levels as there may be: 65,536 to the number
@@ -75,27 +58,12 @@ impl Path {
         self.low == 0 && self.high == 0
     }
 
-    pub fn same(self, other: Path) -> bool
-        ensures { result ≡ same_path self other }
-    {
-        self.low == other.low && self.high == other.high
-    }
-
     // By their numbers: the higher words decide, and where these are equal, the lower ones.
-    pub fn compared(self, other: Path) -> Compared
+    // Not `Ord`, whose laws speak of words of any size: past 64 bits two paths of one number may differ.
+    pub fn compared(self, other: Path) -> Ordering
         ensures { result ≡ compared_paths self other }
     {
-        if self.high < other.high {
-            Compared::Before
-        } else if self.high > other.high {
-            Compared::Behind
-        } else if self.low < other.low {
-            Compared::Before
-        } else if self.low > other.low {
-            Compared::Behind
-        } else {
-            Compared::Same
-        }
+        self.high.cmp(&other.high).then(self.low.cmp(&other.low))
     }
 
     // One word for a path, of which the matching store makes a bucket.
@@ -134,14 +102,14 @@ impl Tag {
         }
     }
 
-    // The tag in a call from a site.
-    pub fn enter(self, site: u8) -> Entered
+    // The tag in a call from a site, if one more level may be.
+    pub fn enter(self, site: u8) -> Option<Tag>
         ensures { result ≡ enter_of self site }
     {
         let low = self.path.low;
         let high = self.path.high;
         if high < DEEPEST {
-            Entered::In(Tag {
+            Some(Tag {
                 path: Path {
                     low: low % DEEPEST * 65536 + (site as u64) * 256 + (self.iteration as u64),
                     high: high * 65536 + low / DEEPEST,
@@ -150,21 +118,21 @@ impl Tag {
                 instruction: self.instruction,
             })
         } else {
-            Entered::TooDeep
+            None
         }
     }
 
-    // The site that the path was entered from, and the tag there.
-    pub fn leave(self) -> Left
+    // Where the path was entered from. Path 0 has no caller.
+    pub fn leave(self) -> Option<Caller>
         ensures { result ≡ leave_of self }
     {
         let path = self.path;
         if path.is_root() {
-            Left::NoCaller
+            None
         } else {
             let low = path.low;
             let high = path.high;
-            Left::To {
+            Some(Caller {
                 site: (low / 256 % 256) as u8,
                 tag: Tag {
                     path: Path {
@@ -174,33 +142,24 @@ impl Tag {
                     iteration: (low % 256) as u8,
                     instruction: self.instruction,
                 },
-            }
+            })
         }
     }
 
-    // The tag of the next iteration.
-    pub fn next(self) -> Next
+    // The tag of the next iteration, unless this is the last.
+    pub fn next(self) -> Option<Tag>
         ensures { result ≡ next_of self }
     {
         let path = self.path;
         let iteration = self.iteration;
         if iteration < 255 {
-            Next::Is(Tag {
+            Some(Tag {
                 path,
                 iteration: iteration + 1,
                 instruction: self.instruction,
             })
         } else {
-            Next::Last
+            None
         }
-    }
-
-    // Whether two tags are the same.
-    pub fn same(self, other: Tag) -> bool
-        ensures { result ≡ same_tag self other }
-    {
-        let path = self.path;
-        path.same(other.path)
-            && (self.iteration == other.iteration && self.instruction == other.instruction)
     }
 }

@@ -19,18 +19,6 @@ pub struct Term {
     pub zeros: u64,
 }
 
-fn wide(x: u8) -> u64
-    ensures { (result ≡ x) × (result < 256) }
-{
-    x as u64
-}
-
-fn wide32(x: u32) -> u64
-    ensures { (result ≡ x) × (result < 4294967296) }
-{
-    x as u64
-}
-
 // The term of the record that s starts with.
 pub fn decode(s: &[u8]) -> Term
     requires { 8 ≤ length s.now }
@@ -40,7 +28,7 @@ pub fn decode(s: &[u8]) -> Term
         kind: s[0],
         left: s[1],
         right: s[2],
-        zeros: wide(s[3]) + 256 * wide32(number::u32_at(s, 4)),
+        zeros: u64::from(s[3]) + 256 * u64::from(number::u32_at(s, 4)),
     }
 }
 

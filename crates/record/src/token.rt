@@ -90,35 +90,35 @@ fn bytes_of(
 ) -> [u8; WIDTH]
     ensures { result ≡ token_bytes path iteration port instruction value state }
 {
-    let a = path.low;
-    let b = a / 4294967296;
-    let c = path.high;
-    let d = c / 4294967296;
+    let [a, b, c, d, e, f, g, h] = path.low.to_le_bytes();
+    let [i, j, k, l, m, n, o, p] = path.high.to_le_bytes();
+    let [instruction_low, instruction_high] = instruction.to_le_bytes();
+    let [v, w, x, y] = value.to_le_bytes();
     [
-        (a % 256) as u8,
-        (a / 256 % 256) as u8,
-        (a / 65536 % 256) as u8,
-        (a / 65536 / 256 % 256) as u8,
-        (b % 256) as u8,
-        (b / 256 % 256) as u8,
-        (b / 65536 % 256) as u8,
-        (b / 65536 / 256 % 256) as u8,
-        (c % 256) as u8,
-        (c / 256 % 256) as u8,
-        (c / 65536 % 256) as u8,
-        (c / 65536 / 256 % 256) as u8,
-        (d % 256) as u8,
-        (d / 256 % 256) as u8,
-        (d / 65536 % 256) as u8,
-        (d / 65536 / 256 % 256) as u8,
+        a,
+        b,
+        c,
+        d,
+        e,
+        f,
+        g,
+        h,
+        i,
+        j,
+        k,
+        l,
+        m,
+        n,
+        o,
+        p,
         iteration,
         port,
-        (instruction % 256) as u8,
-        (instruction / 256 % 256) as u8,
-        (value % 256) as u8,
-        (value / 256 % 256) as u8,
-        (value / 65536 % 256) as u8,
-        (value / 65536 / 256 % 256) as u8,
+        instruction_low,
+        instruction_high,
+        v,
+        w,
+        x,
+        y,
         state,
         0,
         0,
@@ -171,6 +171,5 @@ pub fn put_token(ledger: &mut [u8], i: usize, t: Token)
 pub fn stands_at(t: Token, tag: Tag, port: u8) -> bool
     ensures { result ≡ stands_at tag port t }
 {
-    let own = t.tag;
-    t.port == port && own.same(tag)
+    t.port == port && t.tag == tag
 }

@@ -1,64 +1,34 @@
 // Prints records of each kind with every field at its ends: their bytes, and what is read back.
 #![tactic(auto)]
 
-use console::{say, say_decimal, say_hex};
 use record::cell::Cell;
 use record::instruction::{Destination, Instruction};
-use record::tag::{Entered, Left, Next, Path, Tag};
+use record::tag::{Path, Tag};
 use record::token::{Content, Token};
 use record::{cell, instruction, operation, token};
 use std::io;
 
-fn say_number(rt: &impl Print, n: u64) -> io::Result<()> {
-    say(rt, b" ")?;
-    say_decimal(rt, n)
-}
-
-// A signed number by its bits: from 2,147,483,648 on it is negative.
-fn say_signed(rt: &impl Print, v: i32) -> io::Result<()> {
-    let bits = number::bits(v);
-    if bits < 2147483648 {
-        say_number(rt, bits as u64)?;
-    } else {
-        say(rt, b" -")?;
-        say_decimal(rt, 4294967296 - (bits as u64))?;
-    }
-    Ok(())
-}
-
 fn say_bytes(rt: &impl Print, bytes: &[u8]) -> io::Result<()> {
-    let mut i = 0;
-    while i < bytes.len() {
-        say_hex(rt, bytes[i])?;
-        i += 1;
+    for byte in bytes {
+        print!(rt; "{byte:02x}")?;
     }
     Ok(())
 }
 
 fn say_tag(rt: &impl Print, tag: Tag) -> io::Result<()> {
     let path = tag.path;
-    say_number(rt, path.high)?;
-    say_number(rt, path.low)?;
-    say_number(rt, tag.iteration as u64)?;
-    say_number(rt, tag.instruction as u64)
+    print!(rt;
+        " {} {} {} {}",
+        path.high, path.low, tag.iteration, tag.instruction
+    )
 }
 
 fn say_content(rt: &impl Print, content: Content) -> io::Result<()> {
     match content {
-        Content::Live(v) => {
-            say(rt, b" live")?;
-            say_signed(rt, v)?;
-        }
-        Content::Spent(v) => {
-            say(rt, b" spent")?;
-            say_signed(rt, v)?;
-        }
-        Content::Deferred(cell) => {
-            say(rt, b" deferred")?;
-            say_number(rt, cell as u64)?;
-        }
+        Content::Live(v) => print!(rt; " live {v}"),
+        Content::Spent(v) => print!(rt; " spent {v}"),
+        Content::Deferred(cell) => print!(rt; " deferred {cell}"),
     }
-    Ok(())
 }
 
 // A token's bytes, and the token read back from them.
@@ -69,9 +39,9 @@ fn show_token(rt: &impl Print, t: Token) -> io::Result<()> {
     let tag = back.tag;
     let content = back.content;
     say_tag(rt, tag)?;
-    say_number(rt, back.port as u64)?;
+    print!(rt; " {}", back.port)?;
     say_content(rt, content)?;
-    say(rt, b"\n")
+    println!(rt)
 }
 
 fn show_tokens(rt: &impl Print, tag: Tag, port: u8) -> io::Result<()> {
@@ -106,19 +76,14 @@ fn show_cell(rt: &impl Print, x: Cell) -> io::Result<()> {
     say_bytes(rt, &bytes)?;
     let back = cell::decode(&bytes);
     match back {
-        Cell::Absent => say(rt, b" absent")?,
-        Cell::Waiting => say(rt, b" waiting")?,
-        Cell::Present(v) => {
-            say(rt, b" present")?;
-            say_signed(rt, v)?;
-        }
+        Cell::Absent => println!(rt; " absent"),
+        Cell::Waiting => println!(rt; " waiting"),
+        Cell::Present(v) => println!(rt; " present {v}"),
     }
-    say(rt, b"\n")
 }
 
 fn say_destination(rt: &impl Print, d: Destination) -> io::Result<()> {
-    say_number(rt, d.instruction as u64)?;
-    say_number(rt, d.port as u64)
+    print!(rt; " {} {}", d.instruction, d.port)
 }
 
 fn show_instruction(rt: &impl Print, r: Instruction) -> io::Result<()> {
@@ -127,55 +92,48 @@ fn show_instruction(rt: &impl Print, r: Instruction) -> io::Result<()> {
     let back = instruction::decode(&bytes);
     let first = back.first;
     let second = back.second;
-    say_number(rt, back.code as u64)?;
-    say_number(rt, back.fanout as u64)?;
+    print!(rt; " {} {}", back.code, back.fanout)?;
     say_destination(rt, first)?;
     say_destination(rt, second)?;
-    say_signed(rt, back.constant)?;
-    say_number(rt, back.zeros as u64)?;
-    say(rt, b"\n")
+    println!(rt; " {} {}", back.constant, back.zeros)
 }
 
 // The tag in a call, or the tag again where there are too many levels.
 fn call(rt: &impl Print, tag: Tag, site: u8) -> io::Result<Tag> {
-    let entered = tag.enter(site);
-    match entered {
-        Entered::In(inner) => {
-            say(rt, b"enter")?;
+    match tag.enter(site) {
+        Some(inner) => {
+            print!(rt; "enter")?;
             say_tag(rt, inner)?;
-            say(rt, b"\n")?;
+            println!(rt)?;
             Ok(inner)
         }
-        Entered::TooDeep => {
-            say(rt, b"too deep\n")?;
+        None => {
+            println!(rt; "too deep")?;
             Ok(tag)
         }
     }
 }
 
 fn show_leave(rt: &impl Print, tag: Tag) -> io::Result<()> {
-    let left = tag.leave();
-    match left {
-        Left::To { site, tag } => {
-            say(rt, b"leave")?;
-            say_number(rt, site as u64)?;
-            say_tag(rt, tag)?;
+    match tag.leave() {
+        Some(caller) => {
+            print!(rt; "leave {}", caller.site)?;
+            say_tag(rt, caller.tag)?;
         }
-        Left::NoCaller => say(rt, b"no caller")?,
+        None => print!(rt; "no caller")?,
     }
-    say(rt, b"\n")
+    println!(rt)
 }
 
 fn show_next(rt: &impl Print, tag: Tag) -> io::Result<()> {
-    let next = tag.next();
-    match next {
-        Next::Is(later) => {
-            say(rt, b"next")?;
+    match tag.next() {
+        Some(later) => {
+            print!(rt; "next")?;
             say_tag(rt, later)?;
         }
-        Next::Last => say(rt, b"last iteration")?,
+        None => print!(rt; "last iteration")?,
     }
-    say(rt, b"\n")
+    println!(rt)
 }
 
 fn show_records(rt: &impl Print) -> io::Result<()> {
@@ -270,21 +228,17 @@ fn show_calls(rt: &impl Print) -> io::Result<()> {
 fn show_operand_count(rt: &impl Print, code: u8) -> io::Result<()> {
     let n = operation::operands(code);
     if n != 0 {
-        say_number(rt, code as u64)?;
-        say(rt, b":")?;
-        say_number(rt, n as u64)?;
+        print!(rt; " {code}: {n}")?;
     }
     Ok(())
 }
 
 // The operand counts that are not 0, each with its code.
 fn show_operands(rt: &impl Print) -> io::Result<()> {
-    let mut code: u8 = 0;
-    while code < 255 {
+    for code in 0..255 {
         show_operand_count(rt, code)?;
-        code += 1;
     }
-    say(rt, b"\n")
+    println!(rt)
 }
 
 fn main(rt: HostRuntime) -> io::Result<()> {

@@ -1,4 +1,5 @@
 -- A replay that passed its checks: the loop by the names of its log ends as 02's replay, said of the buffers as lent. Assumes nothing.
+use Rattle.std.proofs.Common.{Ok}
 use Prim.Native.Nat.{ℕ, ◌+◌, ◌-◌, ◌/◌}
 use mathlib.Core.Path.{◌≡◌, sym, ap, subst, ◌∙◌}
 use mathlib.Core.List.{List, []}
@@ -19,7 +20,6 @@ use Rattle.machine.proofs.Choosers.{names_choose}
 use Rattle.rules.specs.declared.answer.Refusal.{Refusal}
 use Rattle.rules.specs.declared.answer.Refusal.TheVariants.{NotEnabled}
 use Rattle.rules.specs.declared.answer.Answer.{Answer}
-use Rattle.rules.specs.declared.answer.Checked.TheVariants.{Passed}
 use Rattle.rules.specs.Check.{check}
 use Rattle.rules.specs.InstructionSet.{machine_of}
 use Rattle.rules.specs.Run.{first_state}
@@ -38,7 +38,7 @@ names_count : (log : List ℕ) → length (names_in log) ≡ (length log + (log_
 unfolding names_in
 names_count log = length_rows log_width name_of ((length log + (log_width - 1)) / log_width) log
 
-module _ (graph arrays inputs log ledger cells : List ℕ) (e : check graph arrays inputs [] (length ledger) (length cells) ≡ Passed)
+module _ (graph arrays inputs log ledger cells : List ℕ) (e : check graph arrays inputs [] (length ledger) (length cells) ≡ Ok tt)
     {tables links flags ledger₁ cells₁ : List ℕ} {used : ℕ} (b : Begun graph arrays inputs tables links flags ledger ledger₁ cells cells₁ used) where
   abbrev ends : List NamedArray → (capacity count : ℕ) → State Tag ℤ → End Refusal Tag ℤ
   ends table capacity count s = replay (machine_of (graph_of graph) table capacity count) NotEnabled (names_in log) 0 s

@@ -1,5 +1,6 @@
 -- R-7 in bytes: a replay of the log that a run has written leaves and counts what the run did (`log_replays`), and the logs of two runs to an end hold the
 -- same records, each once (`logs_agree_lem`); from the theorems of `rules` and the promises. Assumes nothing.
+use Rattle.std.proofs.Common.{Ok, Err}
 use Prim.Native.Nat.{ℕ, ◌*◌, ◌/◌}
 use mathlib.Core.Path.{◌≡◌, refl, sym, ap, subst, ◌∙◌}
 use mathlib.Core.Logic.{◌⊎◌, inl, inr}
@@ -24,9 +25,7 @@ use Rattle.machine.proofs.Runs.{ran}
 use Rattle.machine.proofs.Orders.{by_picks_lawful}
 use Rattle.rules.specs.declared.answer.Answer.{Answer}
 use Rattle.rules.specs.declared.answer.Refusal.TheVariants.{BadStore}
-use Rattle.rules.specs.declared.answer.Checked.{Checked}
-use Rattle.rules.specs.declared.answer.Checked.TheVariants.{Passed, Failed}
-use Rattle.rules.specs.Check.{most_cells}
+use Rattle.rules.specs.Check.{most_cells, Checked}
 use Rattle.rules.specs.InstructionSet.{machine_of}
 use Rattle.rules.specs.Run.{Result, refused_at_once, ran_to, answer, first_state, picks_of}
 use Rattle.rules.specs.Orders.{result_outcome}
@@ -119,9 +118,9 @@ module _ (graph arrays inputs : List ℕ) (l : LentToLogged) where
       go : (c : Checked) → let M = machine_of (graph_of graph) (arrays_of arrays) capacity count in let s = first_state inputs count in
           let x = log_unless_failed c (run M l.budget (picks_of l.picks) s) (log_of M (by_picks M) l.budget (picks_of l.picks) s) in
           (answer x.result).firings ≡ length x.log
-      go Passed = let M = machine_of (graph_of graph) (arrays_of arrays) capacity count in
+      go (Ok _) = let M = machine_of (graph_of graph) (arrays_of arrays) capacity count in
           (ran M (by_picks M) (by_picks_lawful M) l.budget (picks_of l.picks) 0 (first_state inputs count)).logged.firings ∙ zero-add _
-      go (Failed r p) = refl
+      go (Err fault) = refl
 
   log_fit : Bytes graph → Bytes inputs → All TagFits whole.log
   unfolding logged log_unless_failed
@@ -130,8 +129,8 @@ module _ (graph arrays inputs : List ℕ) (l : LentToLogged) where
       go : (c : Checked) → check_logged graph arrays inputs l.picks l.budget (length l.ledger) (length l.cells) (length l.log) ≡ c
           → let M = machine_of (graph_of graph) (arrays_of arrays) capacity count in let s = first_state inputs count in
           All TagFits (log_unless_failed c (run M l.budget (picks_of l.picks) s) (log_of M (by_picks M) l.budget (picks_of l.picks) s)).log
-      go (Failed r p) e = tt
-      go Passed e =
+      go (Err fault) e = tt
+      go (Ok _) e =
           let h = log_passed graph arrays inputs l.picks l.budget (length l.ledger) (length l.cells) (length l.log) e in
           tags_fit graph inputs (arrays_of arrays) capacity count h.start (whole_bytes cell_width most_cells (length l.cells) h.stores.whole_cells).1 graph_bytes input_bytes l.budget (picks_of l.picks) l.log
 

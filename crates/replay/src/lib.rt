@@ -1,10 +1,9 @@
 // A replay (02, R-7): the activities that a log names fire in turn, by the engine's loop.
 #![tactic(auto)]
 
-ghost use Rattle.std.specs.Prelude.{◌+◌, ◌-◌, ◌/◌, ◌≡◌, [], length};
+ghost use Rattle.std.specs.Prelude.{◌+◌, ◌-◌, ◌/◌, ◌≡◌, [], length, Ok};
 ghost use Rattle.record.specs.Widths.{cell_width, log_width};
 ghost use Rattle.machine.specs.Replay.{replay as Machine·replay};
-ghost use Rattle.rules.specs.declared.answer.Checked.TheVariants.{Passed};
 ghost use Rattle.rules.specs.declared.answer.Refusal.TheVariants.{NotEnabled};
 ghost use Rattle.rules.specs.Check.{check};
 ghost use Rattle.rules.specs.Run.{first_state};
@@ -18,7 +17,8 @@ use engine::turns;
 use engine::turns::Going;
 use record::log;
 use rules::answer;
-use rules::answer::{Answer, Checked};
+use rules::answer::Answer;
+use store_flags::Flags;
 
 // How many records a log of `bytes` bytes has, the last one whole or not.
 fn records_in(bytes: usize) -> usize
@@ -40,7 +40,7 @@ fn accepted(
     ledger: &mut [u8],
     cells: &mut [u8],
 ) -> Answer
-    requires { check graph.now arrays.now inputs.now [] (length ledger.old) (length cells.old) ≡ Passed }
+    requires { check graph.now arrays.now inputs.now [] (length ledger.old) (length cells.old) ≡ Ok tt }
     ensures { EndedAt
         (Machine·replay (machine_lent graph.now arrays.now ledger.old cells.old) NotEnabled
         (names_in log.now) 0 (first_state inputs.now (length cells.old / cell_width))) result ledger.old
@@ -48,7 +48,7 @@ fn accepted(
 {
     let mut tables = [0u16; store_enabled::TABLES_LENGTH];
     let mut links = [0u16; store_chains::LENGTH];
-    let mut flags = [0u64; store_flags::LENGTH];
+    let mut flags = Flags::new();
     let used = start::begin(
         graph,
         arrays,
@@ -91,7 +91,7 @@ pub fn replay(
 {
     let checked = checks::check(graph, arrays, inputs, &log[0..0], ledger.len(), cells.len());
     match checked {
-        Checked::Failed(r, place) => answer::refused(r, place),
-        Checked::Passed => accepted(graph, arrays, inputs, log, ledger, cells),
+        Err(fault) => answer::refused(fault),
+        Ok(()) => accepted(graph, arrays, inputs, log, ledger, cells),
     }
 }

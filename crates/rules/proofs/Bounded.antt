@@ -1,6 +1,7 @@
 -- R-9 over the rules: bound 0 is the run without a bound (`bound_zero`); a run with a bound that completes, or hangs with no held activity left, ends as every order does
 -- (`as_every_order`); where an order completes or hangs, none with a bound is refused (`not_refused`); one that writes a log is the run (`bound_logged_runs`,
 -- `bound_log_fits`); and what holds of every result holds of these (`bounded_invariants`, `bounded_fits`, `bounded_small`, `bounded_counted`). Assumes nothing.
+use Rattle.std.proofs.Common.{Ok, Err}
 use Prim.Native.Nat.{ℕ, ◌+◌, ◌*◌, ◌/◌, ◌≤◌}
 use mathlib.Core.Path.{◌≡◌, refl, ap}
 use mathlib.Core.Bool.{true, ◌||◌}
@@ -33,9 +34,7 @@ use Rattle.machine.proofs.Saved.{saved_reached, saved_firings}
 use Rattle.machine.proofs.Bounded.{unbounded, bounded_logged, bounded_ends, bounded_unrefused, RanBounded}
 use Rattle.rules.specs.declared.answer.Refusal.{Refusal}
 use Rattle.rules.specs.declared.answer.Refusal.TheVariants.{BadBound, DamagedState}
-use Rattle.rules.specs.declared.answer.Checked.{Checked}
-use Rattle.rules.specs.declared.answer.Checked.TheVariants.{Passed, Failed}
-use Rattle.rules.specs.Check.{demand, ◌and_then◌, check_graph, check_stores, check_arrays, check_inputs, check, most_cells}
+use Rattle.rules.specs.Check.{demand, ◌and_then◌, check_graph, check_stores, check_arrays, check_inputs, check, most_cells, Checked}
 use Rattle.rules.specs.InstructionSet.{machine_of}
 use Rattle.rules.specs.Run.{first_state, picks_of, ran_to, outcome_of, unless_failed, result, answer}
 use Rattle.rules.specs.Log.{log_suffices, check_log_stores, check_logged, log_unless_failed, logged}
@@ -86,7 +85,7 @@ pub record BoundedCounted : Type 0 where
 
 -- ---- the check
 
-bound_passed : (stores : Checked) (k : ℕ) → and_bound stores k ≡ Passed → stores ≡ Passed
+bound_passed : (stores : Checked) (k : ℕ) → and_bound stores k ≡ Ok tt → stores ≡ Ok tt
 unfolding and_bound
 bound_passed stores k e = (and_then_passed stores (demand (good_bound k) BadBound 0) e).0
 
@@ -96,16 +95,16 @@ bound_below stores k low = then_below stores (demand (good_bound k) BadBound 0) 
 
 no_bound : (stores : Checked) → and_bound stores 0 ≡ stores
 unfolding and_bound good_bound
-no_bound Passed = refl
-no_bound (Failed r p) = refl
+no_bound (Ok _) = refl
+no_bound (Err fault) = refl
 
 -- what a check with a bound says that passed
 record Passes (graph arrays inputs picks : List ℕ) (k ledger cells : ℕ) : Type 0 where
-  stores : check_stores (length inputs) (length picks) ledger cells ≡ Passed
-  named : check_arrays (graph_of graph) (cells / cell_width) arrays ≡ Passed
+  stores : check_stores (length inputs) (length picks) ledger cells ≡ Ok tt
+  named : check_arrays (graph_of graph) (cells / cell_width) arrays ≡ Ok tt
   start : Accepted graph inputs (capacity_of ledger)
 
-passes : (graph arrays inputs picks : List ℕ) (k ledger cells : ℕ) → check_bounded graph arrays inputs picks k ledger cells ≡ Passed → Passes graph arrays inputs picks k ledger cells
+passes : (graph arrays inputs picks : List ℕ) (k ledger cells : ℕ) → check_bounded graph arrays inputs picks k ledger cells ≡ Ok tt → Passes graph arrays inputs picks k ledger cells
 unfolding check_bounded
 passes graph arrays inputs picks k ledger cells e =
     let (p, (n, a)) = accepted graph inputs (capacity_of ledger) (and_bound (check_stores (length inputs) (length picks) ledger cells) k) (check_arrays (graph_of graph) (cells / cell_width) arrays) e in
@@ -113,8 +112,8 @@ passes graph arrays inputs picks k ledger cells e =
 
 -- it looks at no pick but for their length, and at the bound besides
 both_accept : (graph arrays inputs picks : List ℕ) (k ledger cells : ℕ) → Allowed picks ledger cells → good_bound k ≡ true → whole token_width most_tokens (length inputs) ≡ true
-    → check_arrays (graph_of graph) (cells / cell_width) arrays ≡ Passed → Accepted graph inputs (capacity_of ledger)
-    → (check graph arrays inputs picks ledger cells ≡ Passed) × (check_bounded graph arrays inputs picks k ledger cells ≡ Passed)
+    → check_arrays (graph_of graph) (cells / cell_width) arrays ≡ Ok tt → Accepted graph inputs (capacity_of ledger)
+    → (check graph arrays inputs picks ledger cells ≡ Ok tt) × (check_bounded graph arrays inputs picks k ledger cells ≡ Ok tt)
 unfolding check check_bounded and_bound check_stores
 both_accept graph arrays inputs picks k ledger cells allowed bound whole named a = (
   rw (a.graph_passed, whole, allowed.allowed_picks, allowed.allowed_ledger, allowed.allowed_cells, named) a.inputs_passed,
@@ -219,15 +218,15 @@ module _ (graph inputs : List ℕ) (table : List NamedArray) (capacity cells : �
 -- ---- over bytes
 
 module _ (graph arrays inputs picks : List ℕ) (budget k ledger cells : ℕ) where
-  begun : LeavesNoneHeld graph arrays k ledger cells (bounded graph arrays inputs picks budget k ledger cells) → check_bounded graph arrays inputs picks k ledger cells ≡ Passed
+  begun : LeavesNoneHeld graph arrays k ledger cells (bounded graph arrays inputs picks budget k ledger cells) → check_bounded graph arrays inputs picks k ledger cells ≡ Ok tt
   unfolding bounded unless_failed
   begun h = go (check_bounded graph arrays inputs picks k ledger cells) refl
     where
-      go : (c : Checked) → check_bounded graph arrays inputs picks k ledger cells ≡ c → c ≡ Passed
-      go Passed e = refl
-      go (Failed r p) e = absurd (rw e at h)
+      go : (c : Checked) → check_bounded graph arrays inputs picks k ledger cells ≡ c → c ≡ Ok tt
+      go (Ok _) e = refl
+      go (Err fault) e = absurd (rw e at h)
 
-  few_in : check_stores (length inputs) (length picks) ledger cells ≡ Passed → capacity_of ledger ≤ most_tokens
+  few_in : check_stores (length inputs) (length picks) ledger cells ≡ Ok tt → capacity_of ledger ≤ most_tokens
   few_in stores = (whole_bytes token_width most_tokens ledger (stores_whole (length inputs) (length picks) ledger cells stores).whole_ledger).1
 
   as_orders : (picks' : List ℕ) → Allowed picks' ledger cells → LeavesNoneHeld graph arrays k ledger cells (bounded graph arrays inputs picks budget k ledger cells)
@@ -252,8 +251,8 @@ unfolding bounded result unless_failed check
 not_refused graph arrays inputs picks picks' budget k ledger cells bound allowed rests = go (check graph arrays inputs picks' ledger cells) refl
   where
     go : (c : Checked) → check graph arrays inputs picks' ledger cells ≡ c → ¬ (Refused (result_outcome (bounded graph arrays inputs picks budget k ledger cells)))
-    go (Failed r p) e = absurd (rw e at rests)
-    go Passed e =
+    go (Err fault) e = absurd (rw e at rests)
+    go (Ok _) e =
         let (stores, (named, a)) = accepted graph inputs (capacity_of ledger) (check_stores (length inputs) (length picks') ledger cells) (check_arrays (graph_of graph) (cells / cell_width) arrays) e in
         let w = stores_whole (length inputs) (length picks') ledger cells stores in
         let accepts = (both_accept graph arrays inputs picks k ledger cells allowed bound w.whole_inputs named a).1 in
@@ -267,19 +266,19 @@ bound_logged_runs graph arrays inputs picks budget k ledger cells lent suffices 
     rw suffices (go (check_graph graph) (check_stores (length inputs) (length picks) ledger cells)
     (demand (good_bound k) BadBound 0) (check_arrays (graph_of graph) (cells / cell_width) arrays and_then check_inputs (graph_of graph) (capacity_of ledger) inputs) _ _)
   where
-    go : (g s b i : Checked) (d : End Refusal Tag ℤ) (τs : List Tag) → (log_unless_failed (g and_then ((s and_then Passed) and_then b) and_then i) d τs).result ≡ unless_failed (g and_then (s and_then b) and_then i) (ran_to d)
-    go (Failed r p) s b i d τs = refl
-    go Passed (Failed r p) b i d τs = refl
-    go Passed Passed (Failed r p) i d τs = refl
-    go Passed Passed Passed (Failed r p) d τs = refl
-    go Passed Passed Passed Passed d τs = refl
+    go : (g s b i : Checked) (d : End Refusal Tag ℤ) (τs : List Tag) → (log_unless_failed (g and_then ((s and_then Ok tt) and_then b) and_then i) d τs).result ≡ unless_failed (g and_then (s and_then b) and_then i) (ran_to d)
+    go (Err fault) s b i d τs = refl
+    go (Ok _) (Err fault) b i d τs = refl
+    go (Ok _) (Ok _) (Err fault) i d τs = refl
+    go (Ok _) (Ok _) (Ok _) (Err fault) d τs = refl
+    go (Ok _) (Ok _) (Ok _) (Ok _) d τs = refl
 
 module _ (graph arrays inputs picks : List ℕ) (budget k ledger cells lent : ℕ) where
   abbrev stores : Checked
   stores = check_log_stores (length inputs) (length picks) ledger cells budget lent
 
   -- what its check says that passed
-  log_passes : check_bound_logged graph arrays inputs picks budget k ledger cells lent ≡ Passed
+  log_passes : check_bound_logged graph arrays inputs picks budget k ledger cells lent ≡ Ok tt
       → Whole (length inputs) (length picks) ledger cells × ((leb budget (lent / log_width) || leb most_tokens (lent / log_width)) ≡ true) × Accepted graph inputs (capacity_of ledger)
   unfolding check_bound_logged
   log_passes e =
@@ -289,8 +288,8 @@ module _ (graph arrays inputs picks : List ℕ) (budget k ledger cells lent : �
 
   log_room : (c : Checked) → check_bound_logged graph arrays inputs picks budget k ledger cells lent ≡ c → length (bound_logged graph arrays inputs picks budget k ledger cells lent).log * log_width ≤ lent
   unfolding bound_logged log_unless_failed
-  log_room (Failed r p) e = rw e (omega arith)
-  log_room Passed e =
+  log_room (Err fault) e = rw e (omega arith)
+  log_room (Ok _) e =
       let (w, r, a) = log_passes e in
       let few = (whole_bytes token_width most_tokens ledger w.whole_ledger).1 in
       let l = lengths graph inputs (arrays_of arrays) (capacity_of ledger) (cells / cell_width) few a k budget (picks_of picks) in
@@ -306,8 +305,8 @@ module _ (graph arrays inputs picks : List ℕ) (budget k ledger cells lent : �
 
   log_counted : (c : Checked) → check_bound_logged graph arrays inputs picks budget k ledger cells lent ≡ c → CountsFit (answer (bound_logged graph arrays inputs picks budget k ledger cells lent).result)
   unfolding bound_logged log_unless_failed
-  log_counted (Failed r p) e = rw e (at_once_lem r p (rw e at log_below))
-  log_counted Passed e =
+  log_counted (Err fault) e = rw e (at_once_lem fault.refusal fault.place (rw e at log_below))
+  log_counted (Ok _) e =
       let (w, r, a) = log_passes e in
       rw e (counted graph inputs (arrays_of arrays) (capacity_of ledger) (cells / cell_width) (whole_bytes token_width most_tokens ledger w.whole_ledger).1 a k budget (picks_of picks))
 
@@ -323,7 +322,7 @@ module _ (graph arrays picks ledger cells : List ℕ) (budget k firings n : ℕ)
   abbrev d : End Refusal Tag ℤ
   d = run_bounded N (held_in (graph_of graph) k) (by_picks N) budget (picks_of picks) firings (state_saved ledger cells n)
 
-  from_saved : check_graph graph ≡ Passed → capacity_of (length ledger) ≤ most_tokens → state_taken graph ledger cells firings n ≡ true → CountsFit (answer (ran_to d))
+  from_saved : check_graph graph ≡ Ok tt → capacity_of (length ledger) ≤ most_tokens → state_taken graph ledger cells firings n ≡ true → CountsFit (answer (ran_to d))
   unfolding answer
   from_saved passed few t =
       let s = saved_under graph (arrays_of arrays) ledger cells firings n t in

@@ -1,4 +1,5 @@
 -- Demand 3 with two budgets, over the rules: a run that completes or hangs ends as every order does that may do as many firings (`any_two_budgets`). Assumes nothing.
+use Rattle.std.proofs.Common.{Ok}
 use Prim.Native.Nat.{ℕ, ◌/◌, ◌≤◌}
 use mathlib.Core.Path.{◌≡◌, ap}
 use mathlib.Core.List.{List}
@@ -15,7 +16,6 @@ use Rattle.machine.specs.Machine.{Machine, State, by_picks, run}
 use Rattle.machine.specs.Orders.{Quiescent}
 use Rattle.machine.proofs.Orders.{by_picks_lawful, budgets_by}
 use Rattle.machine.proofs.Reached.{reached_good, reached_picks}
-use Rattle.rules.specs.declared.answer.Checked.TheVariants.{Passed}
 use Rattle.rules.specs.Check.{check_stores, check_arrays, check, most_cells}
 use Rattle.rules.specs.InstructionSet.{machine_of}
 use Rattle.rules.specs.Run.{first_state, picks_of, Result, refused_at_once, ran_to, outcome_of, unless_failed, result, answer}
@@ -50,17 +50,17 @@ module _ (graph inputs : List ℕ) (table : List NamedArray) (capacity cells : �
 -- ---- whole runs
 
 module _ (graph arrays inputs picks : List ℕ) (budget ledger cells : ℕ) (rests : Quiescent (result_outcome (result graph arrays inputs picks budget ledger cells))) where
-  passed : check graph arrays inputs picks ledger cells ≡ Passed
+  passed : check graph arrays inputs picks ledger cells ≡ Ok tt
   passed = begun_passed graph arrays inputs picks budget ledger cells (quiescent_begun (result graph arrays inputs picks budget ledger cells) rests)
 
-  parts : (check_stores (length inputs) (length picks) ledger cells ≡ Passed) × ((check_arrays (graph_of graph) (cells / cell_width) arrays ≡ Passed) × Accepted graph inputs (capacity_of ledger))
+  parts : (check_stores (length inputs) (length picks) ledger cells ≡ Ok tt) × ((check_arrays (graph_of graph) (cells / cell_width) arrays ≡ Ok tt) × Accepted graph inputs (capacity_of ledger))
   unfolding check
   parts = accepted graph inputs (capacity_of ledger) (check_stores (length inputs) (length picks) ledger cells) (check_arrays (graph_of graph) (cells / cell_width) arrays) passed
 
   wholes : Whole (length inputs) (length picks) ledger cells
   wholes = stores_whole (length inputs) (length picks) ledger cells parts.0
 
-  also_passed : (picks' : List ℕ) → Allowed picks' ledger cells → check graph arrays inputs picks' ledger cells ≡ Passed
+  also_passed : (picks' : List ℕ) → Allowed picks' ledger cells → check graph arrays inputs picks' ledger cells ≡ Ok tt
   unfolding check check_stores
   also_passed picks' a = rw (parts.1.1.graph_passed, wholes.whole_inputs, a.allowed_picks, a.allowed_ledger, a.allowed_cells, parts.1.0) parts.1.1.inputs_passed
 

@@ -1,5 +1,6 @@
 -- 02, R-6, proved: where the site of each level of every path has an ENTER, a firing keeps that (`callers_kept`), and what LEAVE finds there is the return of
 -- every ENTER of the site (`caller_found`); so it is of every state that a run from inputs reaches (`callers_known`). Assumes nothing.
+use Rattle.std.proofs.Common.{Ok}
 use Prim.Native.Nat.{ℕ, zero, suc, ◌-◌, ◌^◌, ◌<◌, ◌≤◌}
 use mathlib.Core.Path.{◌≡◌, refl, sym, ◌∙◌, subst}
 use mathlib.Core.Bool.{Bool, true, false, cond}
@@ -13,22 +14,21 @@ use lib.Dec.{eqb, leb}
 use lib.IntN.{ℤ, pos, negsuc, nat_abs}
 use Rattle.record.specs.declared.tag.Tag.{Tag}
 use Rattle.record.specs.declared.array.NamedArray.{NamedArray}
-use Rattle.record.specs.declared.tag.Left.{Left}
-use Rattle.record.specs.declared.tag.Left.TheVariants.{To, NoCaller}
+use Rattle.record.specs.declared.tag.Caller.{Caller}
+use Rattle.std.specs.Prelude.{Option, Some, None}
 use Rattle.record.specs.declared.instruction.Destination.{Destination}
 use Rattle.record.specs.declared.instruction.Instruction.{Instruction}
 use Rattle.record.specs.declared.operation.Operation.TheVariants.{Enter, Unknown}
 use Rattle.buffer.specs.Rows.{All}
-use Rattle.record.specs.Paths.{path_number, path_words, is_root}
+use Rattle.record.specs.Paths.{path_number, is_root}
 use Rattle.record.specs.Calls.{most_levels, entered, leave_of, Call, CallFits, path_of}
 use Rattle.record.specs.GraphRecords.{operation_of, destinations, graph_of}
 use Rattle.record.specs.GraphRecords as Graph
 use Rattle.record.proofs.Paths.{number_words, root_number}
-use Rattle.record.proofs.Calls.{at_least, entered_path_lem, left_path_lem}
+use Rattle.record.proofs.Calls.{same_caller, at_least, entered_path_lem, left_path_lem}
 use Rattle.arithmetic.proofs.Ranged.{eq_eq_z, eq_z_true}
 use Rattle.machine.specs.Machine.{Key, Content, live, spent, deferred, Token, Cell, absent, waiting, present, State, Machine, fire, fired}
 use Rattle.machine.proofs.Kept.{Each, each_map, OfContent, OfCell, OfToken, OfState, Keeps, fired_keeps, reached_keeps}
-use Rattle.rules.specs.declared.answer.Checked.TheVariants.{Passed}
 use Rattle.rules.specs.Check.{any, instruction_at, within, enters_site, other_return, check_graph}
 use Rattle.rules.specs.InstructionSet.{key_under, return_of, machine_of}
 use Rattle.rules.specs.Callers.{HasEnter, CallIn, PathIn, ReturnsTo, CallerIn, TokenIn, CallerFound, CallersKnown}
@@ -42,7 +42,7 @@ use Rattle.rules.proofs.Effects.{later, Asked, keeps_asked}
 
 -- a firing keeps it of all tokens, from any state that has it
 abbrev pub CallersKept : Type 0
-CallersKept = (graph : List ℕ) (table : List NamedArray) (capacity cells : ℕ) → check_graph graph ≡ Passed → (s x : State Tag ℤ) (τ : Tag)
+CallersKept = (graph : List ℕ) (table : List NamedArray) (capacity cells : ℕ) → check_graph graph ≡ Ok tt → (s x : State Tag ℤ) (τ : Tag)
     → All (TokenIn (graph_of graph)) s.tokens → fire (machine_of (graph_of graph) table capacity cells) s τ ≡ fired x → All (TokenIn (graph_of graph)) x.tokens
 
 -- ---- the return of a site
@@ -101,22 +101,20 @@ module _ (g : List Instruction) where
     low : caller.iteration < 256
     enter : HasEnter g site
 
-  found : (τ : Tag) (site : ℕ) (caller : Tag) → PathIn g (path_number τ.path) → leave_of τ ≡ To site caller → Found site caller
+  found : (τ : Tag) (site : ℕ) (caller : Tag) → PathIn g (path_number τ.path) → leave_of τ ≡ Some (record { site = site; tag = caller }) → Found site caller
   unfolding leave_of is_root
   found τ site caller p e = go p.calls p.each p.levels p.made
     where
-      no_caller : path_number τ.path ≡ 0 → leave_of τ ≡ NoCaller
+      no_caller : path_number τ.path ≡ 0 → leave_of τ ≡ None
       no_caller h = rw h
 
       go : (cs : List Call) → All (CallIn g) cs → length cs ≤ most_levels → path_number τ.path ≡ path_of cs → Found site caller
       go [] each levels made = let z : ◌≡◌ {A = ℕ} 0 1 = cc (no_caller made, e) in absurd (omega arith)
       go (c ∷ cs) each levels made =
-          let parent : Tag = record { path = path_words (path_of cs); iteration = c.iteration; instruction = τ.instruction } in
           let f = left_path_lem τ c cs each.0.fits made in
-          let sites : c.site ≡ site = cc (f, e) in
-          let tags : parent ≡ caller = cc (f, e) in
-          subst (λ (t : Tag). Found site t) tags
-          (record { path = record { calls = cs; each = each.1; levels = omega arith; made = number_words (path_of cs) }; low = each.0.fits.iteration; enter = rw (← sites) each.0.enter })
+          let same = same_caller (sym f ∙ e) in
+          subst (λ (t : Tag). Found site t) same.1
+          (record { path = record { calls = cs; each = each.1; levels = omega arith; made = number_words (path_of cs) }; low = each.0.fits.iteration; enter = rw (← same.0) each.0.enter })
 
 -- ---- of a graph that passed
 
@@ -127,7 +125,7 @@ between (pos n) e =
     (refl, leb-true 1 n p.0, omega (arith, leb-true n 255 p.1))
 between (negsuc n) e = let z : ◌≡◌ {A = ℕ} 0 1 = cc in absurd (omega arith)
 
-module _ (graph : List ℕ) (passed : check_graph graph ≡ Passed) where
+module _ (graph : List ℕ) (passed : check_graph graph ≡ Ok tt) where
   abbrev g : List Instruction
   g = graph_of graph
 
@@ -227,9 +225,9 @@ module _ (graph : List ℕ) (passed : check_graph graph ≡ Passed) where
   found_known : (t : Token Tag ℤ) → TokenIn g t → CallerIn g (leave_of t.key.tag)
   found_known t h = go (leave_of t.key.tag) refl
     where
-      go : (l : Left) → leave_of t.key.tag ≡ l → CallerIn g l
-      go NoCaller e = tt
-      go (To site to) e = ((found g t.key.tag site to h.path e).enter, returns site)
+      go : (l : Option Caller) → leave_of t.key.tag ≡ l → CallerIn g l
+      go None e = tt
+      go (Some k) e = ((found g t.key.tag k.site k.tag h.path e).enter, returns k.site)
 
 pub callers_kept : CallersKept
 callers_kept graph table capacity cells passed s x τ h e = kept graph passed table capacity cells s x τ h e

@@ -1,5 +1,6 @@
 -- R-12 over the rules: with room for its tokens a run that completed or hung ends the same (`enough_room`), with less every order is refused by 8 (`too_small`).
 -- Assumes nothing.
+use Rattle.std.proofs.Common.{Ok, Err}
 use Prim.Native.Nat.{ℕ, ◌/◌, ◌≤◌, ◌<◌}
 use mathlib.Core.Path.{◌≡◌, refl, ap}
 use mathlib.Core.List.{List}
@@ -25,9 +26,7 @@ use Rattle.machine.proofs.Reached.{reached_picks, reached_count}
 use Rattle.machine.proofs.Capacity as Machines
 use Rattle.rules.specs.declared.answer.Refusal.{Refusal}
 use Rattle.rules.specs.declared.answer.Refusal.TheVariants.{BadInput, LedgerFull}
-use Rattle.rules.specs.declared.answer.Checked.{Checked}
-use Rattle.rules.specs.declared.answer.Checked.TheVariants.{Passed, Failed}
-use Rattle.rules.specs.Check.{demand, in_turn, good_input, check_stores, check_arrays, check_inputs, check}
+use Rattle.rules.specs.Check.{demand, in_turn, good_input, check_stores, check_arrays, check_inputs, check, Checked, fault_at}
 use Rattle.rules.specs.InstructionSet.{machine_of}
 use Rattle.rules.specs.Run.{first_state, picks_of, ran_to, unless_failed, result, answer}
 use Rattle.rules.specs.Orders.{result_outcome, Allowed}
@@ -52,9 +51,9 @@ TooSmallOfResults = (graph arrays inputs picks picks' : List ℕ) (ledger ledger
 
 -- ---- inputs and another capacity
 
-module _ (g : List Instruction) (capacity n : ℕ) (inputs : List ℕ) (passed : check_inputs g capacity inputs ≡ Passed) where
+module _ (g : List Instruction) (capacity n : ℕ) (inputs : List ℕ) (passed : check_inputs g capacity inputs ≡ Ok tt) where
   -- inputs that fit pass
-  inputs_fit : length (all_rows token_width Tokens.decode_token inputs) ≤ n → check_inputs g n inputs ≡ Passed
+  inputs_fit : length (all_rows token_width Tokens.decode_token inputs) ≤ n → check_inputs g n inputs ≡ Ok tt
   unfolding check_inputs
   inputs_fit l =
       let ts = all_rows token_width Tokens.decode_token inputs in
@@ -63,7 +62,7 @@ module _ (g : List Instruction) (capacity n : ℕ) (inputs : List ℕ) (passed :
       rw (parts.0, le-leb (length ts) n l) later.1
 
   -- and those that do not are refused by 8
-  inputs_exceed : n < length (all_rows token_width Tokens.decode_token inputs) → check_inputs g n inputs ≡ Failed LedgerFull n
+  inputs_exceed : n < length (all_rows token_width Tokens.decode_token inputs) → check_inputs g n inputs ≡ Err (fault_at LedgerFull n)
   unfolding check_inputs
   inputs_exceed l =
       let ts = all_rows token_width Tokens.decode_token inputs in
@@ -82,15 +81,15 @@ module _ (graph arrays inputs picks : List ℕ) (ledger cells : ℕ) (rests : Qu
   abbrev e : End Refusal Tag ℤ
   e = run M 2048 (picks_of picks) s
 
-  pub passes : check graph arrays inputs picks ledger cells ≡ Passed
+  pub passes : check graph arrays inputs picks ledger cells ≡ Ok tt
   unfolding result unless_failed
   passes = go (check graph arrays inputs picks ledger cells) refl
     where
-      go : (c : Checked) → check graph arrays inputs picks ledger cells ≡ c → c ≡ Passed
-      go Passed h = refl
-      go (Failed r p) h = absurd (rw h at rests)
+      go : (c : Checked) → check graph arrays inputs picks ledger cells ≡ c → c ≡ Ok tt
+      go (Ok _) h = refl
+      go (Err fault) h = absurd (rw h at rests)
 
-  parts : (check_stores (length inputs) (length picks) ledger cells ≡ Passed) × ((check_arrays (graph_of graph) (cells / cell_width) arrays ≡ Passed) × Accepted graph inputs (capacity_of ledger))
+  parts : (check_stores (length inputs) (length picks) ledger cells ≡ Ok tt) × ((check_arrays (graph_of graph) (cells / cell_width) arrays ≡ Ok tt) × Accepted graph inputs (capacity_of ledger))
   unfolding check
   parts = accepted graph inputs (capacity_of ledger) (check_stores (length inputs) (length picks) ledger cells) (check_arrays (graph_of graph) (cells / cell_width) arrays) passes
 
@@ -113,12 +112,12 @@ module _ (graph arrays inputs picks : List ℕ) (ledger cells : ℕ) (rests : Qu
       omega (arith, c, tokens_first inputs (cells / cell_width))
 
   -- with a ledger that has room for the inputs too
-  pub also_passes : (picks' : List ℕ) (ledger' : ℕ) → Allowed picks' ledger' cells → length (all_rows token_width Tokens.decode_token inputs) ≤ capacity_of ledger' → check graph arrays inputs picks' ledger' cells ≡ Passed
+  pub also_passes : (picks' : List ℕ) (ledger' : ℕ) → Allowed picks' ledger' cells → length (all_rows token_width Tokens.decode_token inputs) ≤ capacity_of ledger' → check graph arrays inputs picks' ledger' cells ≡ Ok tt
   unfolding check check_stores
   also_passes picks' ledger' a l =
       rw (parts.1.1.graph_passed, wholes.whole_inputs, a.allowed_picks, a.allowed_ledger, a.allowed_cells, parts.1.0) (inputs_fit (graph_of graph) (capacity_of ledger) (capacity_of ledger') inputs parts.1.1.inputs_passed l)
 
-  pub also_exceeds : (picks' : List ℕ) (ledger' : ℕ) → Allowed picks' ledger' cells → capacity_of ledger' < length (all_rows token_width Tokens.decode_token inputs) → check graph arrays inputs picks' ledger' cells ≡ Failed LedgerFull (capacity_of ledger')
+  pub also_exceeds : (picks' : List ℕ) (ledger' : ℕ) → Allowed picks' ledger' cells → capacity_of ledger' < length (all_rows token_width Tokens.decode_token inputs) → check graph arrays inputs picks' ledger' cells ≡ Err (fault_at LedgerFull (capacity_of ledger'))
   unfolding check check_stores
   also_exceeds picks' ledger' a l =
       rw (parts.1.1.graph_passed, wholes.whole_inputs, a.allowed_picks, a.allowed_ledger, a.allowed_cells, parts.1.0) (inputs_exceed (graph_of graph) (capacity_of ledger) (capacity_of ledger') inputs parts.1.1.inputs_passed l)

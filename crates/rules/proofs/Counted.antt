@@ -1,5 +1,6 @@
 -- The answer of a logged run, a replay, a profile and a run from a saved state is small: firings are no more than tokens, tokens 2,048 at most, and so is the place
 -- (`all_counted`). Assumes nothing.
+use Rattle.std.proofs.Common.{Ok, Err}
 use Prim.Native.Nat.{ℕ, ◌+◌, ◌/◌, ◌%◌, ◌≤◌, ◌<◌}
 use mathlib.Core.Path.{◌≡◌, refl}
 use mathlib.Core.Bool.{true}
@@ -31,10 +32,8 @@ use Rattle.machine.proofs.Bounds.{PlaceWithin, run_bounded_lem}
 use Rattle.machine.proofs.Saved.{saved_run, saved_firings}
 use Rattle.rules.specs.declared.answer.Refusal.{Refusal}
 use Rattle.rules.specs.declared.answer.Refusal.TheVariants.{BadStore, ProfileFull, NotEnabled, DamagedState}
-use Rattle.rules.specs.declared.answer.Checked.{Checked}
-use Rattle.rules.specs.declared.answer.Checked.TheVariants.{Passed, Failed}
 use Rattle.rules.specs.Answer.{place_in}
-use Rattle.rules.specs.Check.{demand, ◌and_then◌, check_graph, check_stores, check_arrays, check}
+use Rattle.rules.specs.Check.{demand, ◌and_then◌, check_graph, check_stores, check_arrays, check, Checked}
 use Rattle.rules.specs.InstructionSet.{machine_of}
 use Rattle.rules.specs.Run.{first_state, picks_of, refused_at_once, ran_to, outcome_of, answer}
 use Rattle.rules.specs.Log.{names_in, log_suffices, check_log_stores, check_logged, log_unless_failed, logged, replayed}
@@ -149,8 +148,8 @@ unfolding logged log_unless_failed
 counted_logged graph arrays inputs picks budget ledger cells lent = go (check_logged graph arrays inputs picks budget ledger cells lent) refl
   where
     go : (c : Checked) → check_logged graph arrays inputs picks budget ledger cells lent ≡ c → CountsFit (answer (logged graph arrays inputs picks budget ledger cells lent).result)
-    go (Failed r p) e = rw e (at_once_lem r p (rw e at (logged_below graph arrays inputs picks budget ledger cells lent)))
-    go Passed e =
+    go (Err fault) e = rw e (at_once_lem fault.refusal fault.place (rw e at (logged_below graph arrays inputs picks budget ledger cells lent)))
+    go (Ok _) e =
         let h = log_passed graph arrays inputs picks budget ledger cells lent e in
         rw e (by_run_lem graph inputs (arrays_of arrays) (capacity_of ledger) (cells / cell_width) (whole_bytes token_width most_tokens ledger h.stores.whole_ledger).1 h.start budget (picks_of picks))
 
@@ -166,8 +165,8 @@ unfolding profiled profile_unless_failed
 counted_profile graph arrays inputs ledger cells lent = go (check_profile graph arrays inputs ledger cells lent) refl
   where
     go : (c : Checked) → check_profile graph arrays inputs ledger cells lent ≡ c → CountsFit (answer (profiled graph arrays inputs ledger cells lent).result)
-    go (Failed r p) e = rw e (at_once_lem r p (rw e at (profile_below graph arrays inputs ledger cells lent)))
-    go Passed e =
+    go (Err fault) e = rw e (at_once_lem fault.refusal fault.place (rw e at (profile_below graph arrays inputs ledger cells lent)))
+    go (Ok _) e =
         let (w, (named, a)) = Profiles.wholes graph arrays inputs ledger cells lent e in
         rw e (by_profile_lem graph inputs (arrays_of arrays) (capacity_of ledger) (cells / cell_width) (whole_bytes token_width most_tokens ledger w.whole_ledger).1 a (lent / step_width))
 
@@ -179,7 +178,7 @@ module _ (graph arrays picks ledger cells : List ℕ) (budget firings n : ℕ) w
   abbrev e : End Refusal Tag ℤ
   e = run_by N (by_picks N) budget (picks_of picks) firings (state_saved ledger cells n)
 
-  from_saved : check_graph graph ≡ Passed → capacity_of (length ledger) ≤ most_tokens → state_taken graph ledger cells firings n ≡ true → CountsFit (answer (ran_to e))
+  from_saved : check_graph graph ≡ Ok tt → capacity_of (length ledger) ≤ most_tokens → state_taken graph ledger cells firings n ≡ true → CountsFit (answer (ran_to e))
   unfolding answer
   from_saved passed few t =
       let s = saved_under graph (arrays_of arrays) ledger cells firings n t in

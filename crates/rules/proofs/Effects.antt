@@ -9,12 +9,10 @@ use lib.ListN.{length}
 use lib.Dec.{ltb}
 use lib.IntN.{ℤ, pos, negsuc, nat_abs}
 use borrow.Author.Tests.{ltb-true}
+use Rattle.std.specs.Prelude.{Option, None, Some}
 use Rattle.record.specs.declared.tag.Tag.{Tag}
 use Rattle.record.specs.declared.array.NamedArray.{NamedArray}
-use Rattle.record.specs.declared.tag.Next.TheVariants.{Is, Last}
-use Rattle.record.specs.declared.tag.Entered.TheVariants.{In, TooDeep}
-use Rattle.record.specs.declared.tag.Left.{Left}
-use Rattle.record.specs.declared.tag.Left.TheVariants.{To, NoCaller}
+use Rattle.record.specs.declared.tag.Caller.{Caller}
 use Rattle.record.specs.declared.instruction.Destination.{Destination}
 use Rattle.record.specs.declared.instruction.Instruction.{Instruction}
 use Rattle.record.specs.declared.operation.Arithmetic.{Arithmetic}
@@ -24,8 +22,6 @@ use Rattle.record.specs.Paths.{path_number}
 use Rattle.record.specs.TokensAndTags.{to_of}
 use Rattle.record.specs.Calls.{most_levels, entered, next_of, enter_within, enter_of, leave_of}
 use Rattle.record.specs.GraphRecords.{in_use, operation_of}
-use Rattle.arithmetic.specs.declared.Computed.{Computed}
-use Rattle.arithmetic.specs.declared.Computed.TheVariants.{Value, OutOfRange}
 use Rattle.arithmetic.specs.Arithmetic.{compute_of, eq_z}
 use Rattle.machine.specs.Machine.{Key, refuse, send, read, write, Machine}
 use Rattle.machine.proofs.Kept.{Each, OfEffect, OfOperands, Keeps}
@@ -56,10 +52,10 @@ module _ (g : List Instruction) (table : List NamedArray) (capacity cells : ℕ)
     pub sides : operation_of r.code ≡ Operations.Switch → P (key_under τ r.first) × P (key_under τ r.second)
     pub next : operation_of r.code ≡ Operations.Next → τ.iteration < 255 → Each P (all_under (later τ) r)
     pub enter : operation_of r.code ≡ Operations.Enter → path_number τ.path < 65536 ^ (most_levels - 1) → P (key_under (entered τ (nat_abs r.constant)) r.first)
-    pub leave : operation_of r.code ≡ Operations.Leave → (site : ℕ) (caller : Tag) → leave_of τ ≡ To site caller → (i : ℕ) → i < length g → P (record { tag = to_of caller i; port = 0 })
+    pub leave : operation_of r.code ≡ Operations.Leave → (site : ℕ) (caller : Tag) → leave_of τ ≡ Some (record { site = site; tag = caller }) → (i : ℕ) → i < length g → P (record { tag = to_of caller i; port = 0 })
     pub fetch : operation_of r.code ≡ Operations.Fetch → (c : ℕ) → c < cells → R c
     pub constant : Q r.constant
-    pub computed : (o : Arithmetic) (a b v : ℤ) → compute_of o a b ≡ Value v → Q v
+    pub computed : (o : Arithmetic) (a b v : ℤ) → compute_of o a b ≡ Some v → Q v
 
   -- ---- by operations
 
@@ -67,10 +63,10 @@ module _ (g : List Instruction) (table : List NamedArray) (capacity cells : ℕ)
   of_cond true x y h k = h refl
   of_cond false x y h k = k
 
-  of_computed : (c : Computed) (keys : List (Key Tag)) → ((v : ℤ) → c ≡ Value v → Q v) → Each P keys → Holds (send_computed c keys)
+  of_computed : (c : Option ℤ) (keys : List (Key Tag)) → ((v : ℤ) → c ≡ Some v → Q v) → Each P keys → Holds (send_computed c keys)
   unfolding send_computed
-  of_computed (Value v) keys h k = (h v refl, k)
-  of_computed OutOfRange keys h k = tt
+  of_computed (Some v) keys h k = (h v refl, k)
+  of_computed None keys h k = tt
 
   of_cell : (a : ℤ) (f : ℕ → EffectHere) → ((c : ℕ) → c < cells → Holds (f c)) → Holds (on_cell cells a f)
   unfolding on_cell
@@ -90,7 +86,7 @@ module _ (g : List Instruction) (table : List NamedArray) (capacity cells : ℕ)
     unfolding next_of send_next
     of_next v h e = go (ltb τ.iteration 255) refl
       where
-        go : (b : Bool) → ltb τ.iteration 255 ≡ b → Holds (send_next (cond b (Is (later τ)) Last) r v)
+        go : (b : Bool) → ltb τ.iteration 255 ≡ b → Holds (send_next (cond b (Some (later τ)) None) r v)
         go true f = (h, asked.next e (ltb-true τ.iteration 255 f))
         go false f = tt
 
@@ -98,17 +94,17 @@ module _ (g : List Instruction) (table : List NamedArray) (capacity cells : ℕ)
     unfolding enter_within send_entered
     of_enter_lem v h e = go (ltb (path_number τ.path) (65536 ^ (most_levels - 1))) refl
       where
-        go : (b : Bool) → ltb (path_number τ.path) (65536 ^ (most_levels - 1)) ≡ b → Holds (send_entered (cond b (In (entered τ (nat_abs r.constant))) TooDeep) r v)
+        go : (b : Bool) → ltb (path_number τ.path) (65536 ^ (most_levels - 1)) ≡ b → Holds (send_entered (cond b (Some (entered τ (nat_abs r.constant))) None) r v)
         go true f = (h, (asked.enter e (ltb-true (path_number τ.path) (65536 ^ (most_levels - 1)) f), tt))
         go false f = tt
 
-    of_leave_lem : (v : ℤ) → Q v → operation_of r.code ≡ Operations.Leave → (l : Left) → leave_of τ ≡ l → Holds (send_left g l r v)
+    of_leave_lem : (v : ℤ) → Q v → operation_of r.code ≡ Operations.Leave → (l : Option Caller) → leave_of τ ≡ l → Holds (send_left g l r v)
     unfolding send_left send_returned
-    of_leave_lem v h e NoCaller f = (h, tt)
-    of_leave_lem v h e (To site caller) f =
-        let i = return_of site g + nat_abs r.constant in
-        of_cond (ltb i (length g)) (send v (record { tag = to_of caller i; port = 0 } ∷ [])) (refuse Refusals.NoReturn)
-        (λ l. (h, (asked.leave e site caller f i (ltb-true i (length g) l), tt))) tt
+    of_leave_lem v h e None f = (h, tt)
+    of_leave_lem v h e (Some c) f =
+        let i = return_of c.site g + nat_abs r.constant in
+        of_cond (ltb i (length g)) (send v (record { tag = to_of c.tag i; port = 0 } ∷ [])) (refuse Refusals.NoReturn)
+        (λ l. (h, (asked.leave e c.site c.tag f i (ltb-true i (length g) l), tt))) tt
 
     pub of_operation : (o : Operation) → operation_of r.code ≡ o → (a b : ℤ) → Q a → Q b → Holds (effect_of o g table cells τ r a b (all_under τ r))
     unfolding effect_of

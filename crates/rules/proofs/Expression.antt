@@ -1,10 +1,12 @@
 -- R-14, proved: in every order of firing OUT receives the expression's value, if each operation in it is in range and no divisor is 0, and otherwise the run is
 -- refused by 12; by any choice (`expressions_evaluate_by`), and over bytes for any picks (`expressions_evaluate`). Assumes nothing.
+use Rattle.std.proofs.Common.{Ok}
 use Prim.Native.Nat.{ℕ, zero, suc, ◌+◌, ◌/◌, ◌%◌, ◌≤◌, ◌<◌}
 use mathlib.Core.Path.{◌≡◌, refl, sym, ap, ◌∙◌, subst}
 use mathlib.Core.Bool.{Bool, true, false}
 use mathlib.Core.List.{List, [], ◌∷◌, map}
-use mathlib.Core.Option.{Option, none, some}
+use mathlib.Core.Option.{none, some}
+use mathlib.Core.Option as maybe
 use native.Mathlib.Decide.{dec_le}
 use native.Mathlib.Omega.{arith}
 use native.Mathlib.Nat.{zero-add, add-zero, add-suc, suc-add}
@@ -12,6 +14,7 @@ use lib.ListN.{length, get_or, length-map}
 use lib.IntN.{ℤ, pos}
 use lib.Dec.{ltb}
 use borrow.Author.Tests.{lt-ltb, le-ltb, le-leb, eq-eqb}
+use Rattle.std.specs.Prelude.{Option, None, Some}
 use Rattle.record.specs.declared.tag.Tag.{Tag}
 use Rattle.record.specs.declared.instruction.Instruction.{Instruction}
 use Rattle.buffer.specs.Rows.{whole}
@@ -19,15 +22,12 @@ use Rattle.record.specs.TokensAndTags.{root_of, most_tokens, capacity_of}
 use Rattle.record.specs.declared.term.Term.{Term}
 use Rattle.record.specs.ExpressionRecords.{decode_term, expression_of}
 use Rattle.record.specs.Widths.{token_width, cell_width}
-use Rattle.arithmetic.specs.declared.Computed.{Computed}
-use Rattle.arithmetic.specs.declared.Computed.TheVariants.{Value, OutOfRange}
 use Rattle.machine.specs.Machine.{Key, Content, live, Token, Machine, State, Choice, at, find, look, same_key, when, by_picks, run, run_by}
 use Rattle.machine.specs.Orders.{LawfulChoice}
 use Rattle.machine.proofs.View.{when_yes, when_no, none_some}
 use Rattle.machine.proofs.Orders.{by_picks_lawful}
 use Rattle.machine.proofs.Trees.{trees_evaluate, first, Fed}
 use Rattle.machine.proofs.Trees as Trees
-use Rattle.rules.specs.declared.answer.Checked.TheVariants.{Passed}
 use Rattle.rules.specs.Check.{check_stores, check}
 use Rattle.rules.specs.InstructionSet.{machine_of}
 use Rattle.rules.specs.Run.{token_held, first_state, picks_of, ran_to, unless_failed, result}
@@ -83,7 +83,7 @@ module _ (ts : List Term) (ok : Proper ts) (values : List ℤ) (fit : ValuesFor 
   nothing : (i p : ℕ) → count is_variable ts ≤ number ts i → look T s (at T (root_of (number ts i)) p) ≡ none
   nothing i p l = rw tokens_first (go (find T (at T (root_of (number ts i)) p) (map token_held (inputs_for 0 values))) refl)
     where
-      go : (x : Option (Content ℤ)) → find T (at T (root_of (number ts i)) p) (map token_held (inputs_for 0 values)) ≡ x → x ≡ none
+      go : (x : maybe.Option (Content ℤ)) → find T (at T (root_of (number ts i)) p) (map token_held (inputs_for 0 values)) ≡ x → x ≡ none
       go none e = refl
       go (some x) e =
           let (m, low, k) = found_only (graph_for ts) capacity cells 0 values (at T (root_of (number ts i)) p) x e in
@@ -144,9 +144,9 @@ module _ (ts : List Term) (ok : Proper ts) (values : List ℤ) (fit : ValuesFor 
   evaluates c lawful budget enough picks =
       go (expression_value ts values) (rw value_same at (trees_evaluate T (tree ts ok values capacity cells) (is_tree ts ok values capacity cells) s fed c lawful budget enough picks 0))
     where
-      go : (v : Computed) → Trees.EvaluatesTree T (tree ts ok values capacity cells) s 0 (optional v) (run_by T c budget picks 0 s) → EvaluatesExpression ts capacity cells v (run_by T c budget picks 0 s)
-      go OutOfRange h = h
-      go (Value v) h = record {
+      go : (v : Option ℤ) → Trees.EvaluatesTree T (tree ts ok values capacity cells) s 0 (optional v) (run_by T c budget picks 0 s) → EvaluatesExpression ts capacity cells v (run_by T c budget picks 0 s)
+      go None h = h
+      go (Some v) h = record {
         outcome = h.outcome;
         received = subst (λ (m : ℕ). look T (run_by T c budget picks 0 s).state (at T (root_of m) 0) ≡ some (live v)) out_number h.result;
         firings = h.firings ∙ zero-add (length ts);
@@ -159,7 +159,7 @@ expressions_evaluate_by expression e values fit capacity cells room = evaluates 
 -- ---- whole runs
 
 -- what is lent has the allowed lengths
-stores_pass : (inputs picks : List ℕ) (ledger cells : ℕ) → whole token_width most_tokens (length inputs) ≡ true → Allowed picks ledger cells → check_stores (length inputs) (length picks) ledger cells ≡ Passed
+stores_pass : (inputs picks : List ℕ) (ledger cells : ℕ) → whole token_width most_tokens (length inputs) ≡ true → Allowed picks ledger cells → check_stores (length inputs) (length picks) ledger cells ≡ Ok tt
 unfolding check_stores
 stores_pass inputs picks ledger cells w a = rw (w, a.allowed_picks, a.allowed_ledger, a.allowed_cells)
 

@@ -1,5 +1,6 @@
 -- The graph of an expression is read back from its bytes (`graphs_read_back`), and 01's check lets it by (`graphs_accepted`), and what feeds it
 -- (`inputs_accepted`). Assumes nothing.
+use Rattle.std.proofs.Common.{Ok}
 use Prim.Native.Nat.{ℕ, zero, suc, ◌+◌, ◌*◌, ◌/◌, ◌%◌, ◌^◌, ◌≤◌, ◌<◌}
 use mathlib.Core.Path.{◌≡◌, refl, sym, ap, ◌∙◌, subst}
 use mathlib.Core.Bool.{Bool, true, false, not, ◌&&◌, cond}
@@ -33,9 +34,7 @@ use Rattle.record.specs.ExpressionRecords.{decode_term, expression_of}
 use Rattle.record.specs.Widths.{graph_width, token_width}
 use Rattle.record.proofs.Records.{length_instruction, instruction_back, length_token, tokens_joined}
 use Rattle.rules.specs.declared.answer.Refusal.TheVariants as Refusals
-use Rattle.rules.specs.declared.answer.Checked.{Checked}
-use Rattle.rules.specs.declared.answer.Checked.TheVariants.{Passed}
-use Rattle.rules.specs.Check.{demand, any, in_turn, operands_at, fan_out_allowed, is_zero, unused_are_zero, good_arc, good_site, check_record, check_graph, names_good, check_arrays, good_input, second_input, check_inputs}
+use Rattle.rules.specs.Check.{demand, any, in_turn, operands_at, fan_out_allowed, is_zero, unused_are_zero, good_arc, good_site, check_record, check_graph, names_good, check_arrays, good_input, second_input, check_inputs, Checked}
 use Rattle.rules.specs.Expression.{term_at, is_variable, is_operation, instruction_for, goes_to, code_for, sending, out, made, graph_for, graph_bytes, inputs_for, input_bytes, ValuesFor}
 use Rattle.rules.specs.Expression.{OfEvery}
 use Rattle.rules.proofs.Lists.{or_right}
@@ -51,24 +50,24 @@ GraphsReadBack = OfEvery (λ ts. Graph.graph_of (graph_bytes ts) ≡ graph_for t
 
 -- 01's check lets the graph by
 abbrev pub GraphsAccepted : Type 0
-GraphsAccepted = OfEvery (λ ts. check_graph (graph_bytes ts) ≡ Passed)
+GraphsAccepted = OfEvery (λ ts. check_graph (graph_bytes ts) ≡ Ok tt)
 
 -- and what feeds it
 abbrev pub InputsAccepted : Type 0
-InputsAccepted = OfEvery (λ ts. (values : List ℤ) → ValuesFor ts values → (capacity : ℕ) → length values ≤ capacity → check_inputs (graph_for ts) capacity (input_bytes values) ≡ Passed)
+InputsAccepted = OfEvery (λ ts. (values : List ℤ) → ValuesFor ts values → (capacity : ℕ) → length values ≤ capacity → check_inputs (graph_for ts) capacity (input_bytes values) ≡ Ok tt)
 
 -- ---- what passes in turn
 
 module _ {A : Type 0} (f : ℕ → A → Checked) where
-  turn_passes : (i : ℕ) (xs : List A) → All (λ x. (k : ℕ) → f k x ≡ Passed) xs → in_turn f i xs ≡ Passed
+  turn_passes : (i : ℕ) (xs : List A) → All (λ x. (k : ℕ) → f k x ≡ Ok tt) xs → in_turn f i xs ≡ Ok tt
   turn_passes i [] h = refl
   turn_passes i (x ∷ xs) h = rw (h.0 i) (turn_passes (suc i) xs h.1)
 
-  turn_passes_at : (d : A) (i : ℕ) (xs : List A) → ((k : ℕ) → k < length xs → f (i + k) (get_or xs k d) ≡ Passed) → in_turn f i xs ≡ Passed
+  turn_passes_at : (d : A) (i : ℕ) (xs : List A) → ((k : ℕ) → k < length xs → f (i + k) (get_or xs k d) ≡ Ok tt) → in_turn f i xs ≡ Ok tt
   turn_passes_at d i [] h = refl
   turn_passes_at d i (x ∷ xs) h =
-      rw (subst (λ (m : ℕ). f m x ≡ Passed) (add-zero i) (h 0 (omega arith)))
-      (turn_passes_at d (suc i) xs (λ k l. subst (λ (m : ℕ). f m (get_or xs k d) ≡ Passed) (add-suc i k ∙ sym (suc-add i k)) (h (suc k) (omega arith))))
+      rw (subst (λ (m : ℕ). f m x ≡ Ok tt) (add-zero i) (h 0 (omega arith)))
+      (turn_passes_at d (suc i) xs (λ k l. subst (λ (m : ℕ). f m (get_or xs k d) ≡ Ok tt) (add-suc i k ∙ sym (suc-add i k)) (h (suc k) (omega arith))))
 
 all_append : {A : Type 0} (P : A → Type 0) (xs ys : List A) → All P xs → All P ys → All P (xs ++ ys)
 all_append P [] ys h k = k
@@ -163,26 +162,26 @@ module _ (ts : List Term) (ok : Proper ts) where
   -- ---- the check
 
   passes : (code : ℕ) (d : Destination) → leb 1 (operands_of code) ≡ true → leb (row_of code).least_fan_out 1 && leb 1 (row_of code).most_fan_out ≡ true → eqb code 8 ≡ false → eqb code 9 ≡ false
-      → good_arc (graph_for ts) d ≡ true → (k : ℕ) → check_record (graph_for ts) k (sending code d) ≡ Passed
+      → good_arc (graph_for ts) d ≡ true → (k : ℕ) → check_record (graph_for ts) k (sending code d) ≡ Ok tt
   unfolding check_record fan_out_allowed unused_are_zero is_zero good_site
   passes code d known fan enter leave there k = rw (known, fan, or_right (uses_constant code) true refl, there, enter, leave)
 
-  record_passes : (j : ℕ) → j < n → (k : ℕ) → check_record (graph_for ts) k (sending (code_for (term_at ts j)) (goes_to ts j)) ≡ Passed
+  record_passes : (j : ℕ) → j < n → (k : ℕ) → check_record (graph_for ts) k (sending (code_for (term_at ts j)) (goes_to ts j)) ≡ Ok tt
   record_passes j l =
-      by_kind (λ code. (k : ℕ) → check_record (graph_for ts) k (sending code (goes_to ts j)) ≡ Passed) j l
+      by_kind (λ code. (k : ℕ) → check_record (graph_for ts) k (sending code (goes_to ts j)) ≡ Ok tt) j l
       (passes 1 (goes_to ts j) (ap (λ (r : Row). leb 1 r.operands) copy_row) (ap (λ (r : Row). leb r.least_fan_out 1 && leb 1 r.most_fan_out) copy_row) refl refl (goes j l).there)
       (λ code least most.
       let row = arithmetic_row_lem code least most in
       passes code (goes_to ts j) (ap (λ (r : Row). leb 1 r.operands) row) (ap (λ (r : Row). leb r.least_fan_out 1 && leb 1 r.most_fan_out) row)
       (ne_eqb code 8 (λ q. omega arith)) (ne_eqb code 9 (λ q. omega arith)) (goes j l).there)
 
-  out_passes : (k : ℕ) → check_record (graph_for ts) k out ≡ Passed
+  out_passes : (k : ℕ) → check_record (graph_for ts) k out ≡ Ok tt
   unfolding check_record fan_out_allowed unused_are_zero is_zero good_site names_array uses_constant row_of
   out_passes k = refl
 
-  pub graph_passes : check_graph (graph_bytes ts) ≡ Passed
+  pub graph_passes : check_graph (graph_bytes ts) ≡ Ok tt
   unfolding check_graph
-  graph_passes = rw (size, graph_back) (turn_passes (check_record (graph_for ts)) 0 (graph_for ts) (each_instruction (λ r. (k : ℕ) → check_record (graph_for ts) k r ≡ Passed) record_passes out_passes))
+  graph_passes = rw (size, graph_back) (turn_passes (check_record (graph_for ts)) 0 (graph_for ts) (each_instruction (λ r. (k : ℕ) → check_record (graph_for ts) k r ≡ Ok tt) record_passes out_passes))
     where
       size : is_graph_length (length (graph_bytes ts)) ≡ true
       size =
@@ -191,26 +190,26 @@ module _ (ts : List Term) (ok : Proper ts) where
           rw (le-leb 1 (length (graph_bytes ts)) (omega arith), eq-eqb (length (graph_bytes ts) % graph_width) 0 (omega arith), le-leb (length (graph_bytes ts) / graph_width) 256 (omega arith))
 
   -- it has no FETCH and no STORE, so it names no array
-  none_named : (r : Instruction) → names_array r.code ≡ false → (k : ℕ) → demand (names_good 0 r) Refusals.BadArray k ≡ Passed
+  none_named : (r : Instruction) → names_array r.code ≡ false → (k : ℕ) → demand (names_good 0 r) Refusals.BadArray k ≡ Ok tt
   unfolding names_good
   none_named r h k = rw h
 
-  record_names_none : (j : ℕ) → j < n → (k : ℕ) → demand (names_good 0 (sending (code_for (term_at ts j)) (goes_to ts j))) Refusals.BadArray k ≡ Passed
+  record_names_none : (j : ℕ) → j < n → (k : ℕ) → demand (names_good 0 (sending (code_for (term_at ts j)) (goes_to ts j))) Refusals.BadArray k ≡ Ok tt
   unfolding names_array
   record_names_none j l =
-      by_kind (λ code. (k : ℕ) → demand (names_good 0 (sending code (goes_to ts j))) Refusals.BadArray k ≡ Passed) j l
+      by_kind (λ code. (k : ℕ) → demand (names_good 0 (sending code (goes_to ts j))) Refusals.BadArray k ≡ Ok tt) j l
       (none_named (sending 1 (goes_to ts j)) refl)
       (λ code least most. none_named (sending code (goes_to ts j)) (rw (ne_eqb code 10 (λ q. omega arith), ne_eqb code 11 (λ q. omega arith))))
 
-  out_names_none : (k : ℕ) → demand (names_good 0 out) Refusals.BadArray k ≡ Passed
+  out_names_none : (k : ℕ) → demand (names_good 0 out) Refusals.BadArray k ≡ Ok tt
   unfolding names_array
   out_names_none = none_named out refl
 
-  pub arrays_pass : (cells : ℕ) → check_arrays (graph_for ts) cells [] ≡ Passed
+  pub arrays_pass : (cells : ℕ) → check_arrays (graph_for ts) cells [] ≡ Ok tt
   unfolding check_arrays
   arrays_pass cells =
       turn_passes (λ i r. demand (names_good 0 r) Refusals.BadArray i) 0 (graph_for ts)
-      (each_instruction (λ r. (k : ℕ) → demand (names_good 0 r) Refusals.BadArray k ≡ Passed) record_names_none out_names_none)
+      (each_instruction (λ r. (k : ℕ) → demand (names_good 0 r) Refusals.BadArray k ≡ Ok tt) record_names_none out_names_none)
 
 pub graphs_read_back : GraphsReadBack
 graphs_read_back expression e = graph_back (expression_of expression) (passed expression e)
@@ -291,7 +290,7 @@ module _ (ts : List Term) (ok : Proper ts) (values : List ℤ) (fit : ValuesFor 
       let ports : operands_at (graph_for ts) (instruction_for ts i) ≡ 1 = rw (lt-ltb i (length ts) low, v) at (operands_number ts ok i (omega arith)) in
       subst (λ (m : ℕ). 0 < operands_at (graph_for ts) m) same (rw ports (omega arith))
 
-  pub inputs_pass : (capacity : ℕ) → length values ≤ capacity → check_inputs (graph_for ts) capacity (input_bytes values) ≡ Passed
+  pub inputs_pass : (capacity : ℕ) → length values ≤ capacity → check_inputs (graph_for ts) capacity (input_bytes values) ≡ Ok tt
   unfolding check_inputs second_input input_bytes
   inputs_pass capacity room =
       rw (
@@ -305,11 +304,11 @@ module _ (ts : List Term) (ok : Proper ts) (values : List ℤ) (fit : ValuesFor 
       back : rows token_width Tokens.decode_token (length values) (input_bytes values) ≡ inputs_for 0 values
       back = rw input_records_lem at inputs_back
 
-      all_true : (bs : List Bool) → All (λ (b : Bool). b ≡ true) bs → All (λ b. (i : ℕ) → demand b Refusals.BadInput i ≡ Passed) bs
+      all_true : (bs : List Bool) → All (λ (b : Bool). b ≡ true) bs → All (λ b. (i : ℕ) → demand b Refusals.BadInput i ≡ Ok tt) bs
       all_true [] h = tt
       all_true (b ∷ bs) h = (λ i. rw h.0, all_true bs h.1)
 
-      apart : (k : ℕ) → k < length values → demand (not (second_input (take (0 + k) (inputs_for 0 values)) (get_or (inputs_for 0 values) k (Tokens.decode_token [])))) Refusals.SecondToken (0 + k) ≡ Passed
+      apart : (k : ℕ) → k < length values → demand (not (second_input (take (0 + k) (inputs_for 0 values)) (get_or (inputs_for 0 values) k (Tokens.decode_token [])))) Refusals.SecondToken (0 + k) ≡ Ok tt
       apart k l = rw (input_at 0 values (Tokens.decode_token []) k l, alone 0 (0 + k) (0 + k) values (omega arith))
 
 pub inputs_accepted : InputsAccepted

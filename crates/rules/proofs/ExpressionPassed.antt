@@ -1,4 +1,5 @@
 -- What holds of an expression that passed its check, record by record (`passed`). Assumes nothing.
+use Rattle.std.proofs.Common.{Ok}
 use Prim.Native.Nat.{ℕ, zero, suc, ◌/◌, ◌≤◌, ◌<◌}
 use mathlib.Core.Path.{◌≡◌, refl, subst}
 use mathlib.Core.Bool.{Bool, true, false, not, ◌||◌}
@@ -16,7 +17,6 @@ use Rattle.record.specs.ExpressionRecords.{decode_term, expression_of}
 use Rattle.record.specs.Widths.{term_width}
 use Rattle.machine.proofs.View.{false_true}
 use Rattle.rules.specs.declared.answer.Refusal.TheVariants.{BadExpression}
-use Rattle.rules.specs.declared.answer.Checked.TheVariants.{Passed}
 use Rattle.rules.specs.Check.{demand, any, in_turn}
 use Rattle.rules.specs.Expression.{most_terms, is_expression_length, term_at, is_variable, is_operation, names, good_operation, good_term, check_terms, check_expression}
 use Rattle.rules.proofs.Passed.{both, demand_passed, and_then_passed, turn_passed}
@@ -72,8 +72,8 @@ named_by j t e =
     side (inl h) = inl (eqb-true t.left j h)
     side (inr h) = inr (eqb-true t.right j h)
 
-module _ (ts : List Term) (e : check_terms ts ≡ Passed) where
-  parts : (in_turn (λ i t. demand (good_term (take i ts) i t) BadExpression i) 0 ts ≡ Passed) × (in_turn (λ j t. demand (eqb (suc j) (length ts) || any (names j) ts) BadExpression j) 0 ts ≡ Passed)
+module _ (ts : List Term) (e : check_terms ts ≡ Ok tt) where
+  parts : (in_turn (λ i t. demand (good_term (take i ts) i t) BadExpression i) 0 ts ≡ Ok tt) × (in_turn (λ j t. demand (eqb (suc j) (length ts) || any (names j) ts) BadExpression j) 0 ts ≡ Ok tt)
   unfolding check_terms
   parts = and_then_passed (in_turn (λ i t. demand (good_term (take i ts) i t) BadExpression i) 0 ts) _ e
 
@@ -130,7 +130,7 @@ module _ (ts : List Term) (e : check_terms ts ≡ Passed) where
       go (inl h) = absurd (omega (arith, eqb-true (suc j) (length ts) h))
       go (inr h) = found_at (names j) (decode_term []) ts h
 
-pub passed : (expression : List ℕ) → check_expression expression ≡ Passed → Proper (expression_of expression)
+pub passed : (expression : List ℕ) → check_expression expression ≡ Ok tt → Proper (expression_of expression)
 unfolding check_expression
 passed expression e =
     let ts = expression_of expression in

@@ -4,7 +4,8 @@ use Prim.Native.Nat.{ℕ, zero, suc, ◌+◌, ◌-◌, ◌≤◌, ◌<◌}
 use mathlib.Core.Path.{◌≡◌, refl, sym, ap, ◌∙◌, subst}
 use mathlib.Core.Bool.{Bool, true, false, ◌&&◌, ◌||◌, cond}
 use mathlib.Core.List.{List, [], ◌∷◌}
-use mathlib.Core.Option.{Option, none, some}
+use mathlib.Core.Option.{none, some}
+use mathlib.Core.Option as maybe
 use mathlib.Core.Logic.{◌⊎◌, inl, inr, ◌↔◌}
 use native.Mathlib.Decide.{ℕ_discrete, dec_le}
 use native.Mathlib.Omega.{arith}
@@ -12,6 +13,7 @@ use lib.ListN.{length, get_or}
 use lib.IntN.{ℤ, pos}
 use lib.Dec.{eqb, ltb}
 use borrow.Author.Tests.{lt-ltb, le-ltb, eq-eqb, ne_eqb, not-true}
+use Rattle.std.specs.Prelude.{Option, None, Some}
 use Rattle.record.specs.declared.tag.Tag.{Tag}
 use Rattle.record.specs.declared.instruction.Destination.{Destination}
 use Rattle.record.specs.declared.operation.Arithmetic.{Arithmetic}
@@ -21,8 +23,6 @@ use Rattle.record.specs.TokensAndTags.{root_of}
 use Rattle.record.specs.Paths.{is_root, path_number}
 use Rattle.record.specs.declared.term.Term.{Term}
 use Rattle.record.specs.ExpressionRecords.{decode_term, expression_of}
-use Rattle.arithmetic.specs.declared.Computed.{Computed}
-use Rattle.arithmetic.specs.declared.Computed.TheVariants.{Value, OutOfRange}
 use Rattle.arithmetic.specs.Arithmetic.{compute_of}
 use Rattle.machine.specs.Machine.{Key, refuse, send, Machine, Operands, on_option, two_values, at}
 use Rattle.machine.proofs.View.{none_some}
@@ -43,13 +43,13 @@ pub record OutAt (ts : List Term) (values : List ℤ) (i : ℕ) : Type 0 where
   pub operation : is_operation (term_at ts i) ≡ true
   pub left : ℤ
   pub right : ℤ
-  pub left_value : value_at ts values (term_at ts i).left ≡ Value left
-  pub right_value : value_at ts values (term_at ts i).right ≡ Value right
-  pub out_of_range : compute_of (arithmetic_of (term_at ts i).kind) left right ≡ OutOfRange
+  pub left_value : value_at ts values (term_at ts i).left ≡ Some left
+  pub right_value : value_at ts values (term_at ts i).right ≡ Some right
+  pub out_of_range : compute_of (arithmetic_of (term_at ts i).kind) left right ≡ None
 
 -- an expression has no value exactly if an operation is: "each operation in it" is each of its records
 abbrev pub ValuesTell : Type 0
-ValuesTell = OfEvery (λ ts. (values : List ℤ) → (expression_value ts values ≡ OutOfRange) ↔ ((i : ℕ) × OutAt ts values i))
+ValuesTell = OfEvery (λ ts. (values : List ℤ) → (expression_value ts values ≡ None) ↔ ((i : ℕ) × OutAt ts values i))
 
 -- ---- the rows of COPY, of OUT, and of the codes 16 to 23
 
@@ -81,15 +81,16 @@ arithmetic_row_lem code l m = subst (λ (n : ℕ). row_of n ≡ arithmetic_row n
 
 -- ---- values
 
-abbrev pub optional : Computed → Option ℤ
-optional (Value v) = some v
-optional OutOfRange = none
+-- the same for the machine, whose trees speak of the logic's own option
+abbrev pub optional : Option ℤ → maybe.Option ℤ
+optional (Some v) = some v
+optional None = none
 
-pub combined_none : (o : Arithmetic) (a b : Computed) → (optional a ≡ none) ⊎ (optional b ≡ none) → optional (combined o a b) ≡ none
-combined_none o (Value a) (Value b) (inl e) = none_some (sym e)
-combined_none o (Value a) (Value b) (inr e) = none_some (sym e)
-combined_none o (Value a) OutOfRange e = refl
-combined_none o OutOfRange b e = refl
+pub combined_none : (o : Arithmetic) (a b : Option ℤ) → (optional a ≡ none) ⊎ (optional b ≡ none) → optional (combined o a b) ≡ none
+combined_none o (Some a) (Some b) (inl e) = none_some (sym e)
+combined_none o (Some a) (Some b) (inr e) = none_some (sym e)
+combined_none o (Some a) None e = refl
+combined_none o None b e = refl
 
 module _ (ts : List Term) (ok : Proper ts) (values : List ℤ) where
   -- a greater bound is of no account
@@ -100,8 +101,8 @@ module _ (ts : List Term) (ok : Proper ts) (values : List ℤ) where
   stable (suc m) (suc n) i l h low = go (is_variable (term_at ts i)) refl (λ j lj k low. stable m n j lj k low)
     where
       go : (b : Bool) → is_variable (term_at ts i) ≡ b → ((j : ℕ) → j < m → j < n → j < length ts → value_below m ts values j ≡ value_below n ts values j)
-          → cond b (Value (get_or values (variable_number ts i) (pos 0))) (combined (arithmetic_of (term_at ts i).kind) (value_below m ts values (term_at ts i).left) (value_below m ts values (term_at ts i).right))
-          ≡ cond b (Value (get_or values (variable_number ts i) (pos 0))) (combined (arithmetic_of (term_at ts i).kind) (value_below n ts values (term_at ts i).left) (value_below n ts values (term_at ts i).right))
+          → cond b (Some (get_or values (variable_number ts i) (pos 0))) (combined (arithmetic_of (term_at ts i).kind) (value_below m ts values (term_at ts i).left) (value_below m ts values (term_at ts i).right))
+          ≡ cond b (Some (get_or values (variable_number ts i) (pos 0))) (combined (arithmetic_of (term_at ts i).kind) (value_below n ts values (term_at ts i).left) (value_below n ts values (term_at ts i).right))
       go true e rest = refl
       go false e rest =
           let o = ok.operation i low e in
@@ -109,7 +110,7 @@ module _ (ts : List Term) (ok : Proper ts) (values : List ℤ) where
           let right = o.right in
           rw (rest (term_at ts i).left (omega arith) (omega arith) (omega arith), rest (term_at ts i).right (omega arith) (omega arith) (omega arith))
 
-  pub variable_value : (i : ℕ) → is_variable (term_at ts i) ≡ true → value_at ts values i ≡ Value (get_or values (variable_number ts i) (pos 0))
+  pub variable_value : (i : ℕ) → is_variable (term_at ts i) ≡ true → value_at ts values i ≡ Some (get_or values (variable_number ts i) (pos 0))
   unfolding value_below
   variable_value i e = rw e
 
@@ -262,15 +263,15 @@ module _ (ts : List Term) (ok : Proper ts) where
     unfolding effect_in effect_of
     computes code row e = rw e (ap (λ (r : Row). effect_of r.operation (graph_for ts) [] cells τ (sending code d) a b (key_under τ d ∷ [])) row)
 
-  sent : (c : Computed) (keys : List (Key Tag)) → send_computed c keys ≡ on_option (optional c) (refuse Refusals.OutOfRange) (λ v. send v keys)
+  sent : (c : Option ℤ) (keys : List (Key Tag)) → send_computed c keys ≡ on_option (optional c) (refuse Refusals.OutOfRange) (λ v. send v keys)
   unfolding send_computed
-  sent (Value v) keys = refl
-  sent OutOfRange keys = refl
+  sent (Some v) keys = refl
+  sent None keys = refl
 
-  both_values : (x y : Computed) (o : Operands ℤ) → two_values 2 (optional x) (optional y) ≡ some o → (x ≡ Value o.left) × (y ≡ Value o.right)
-  both_values (Value a) (Value b) o e = (cc, cc)
-  both_values (Value a) OutOfRange o e = none_some e
-  both_values OutOfRange y o e = none_some e
+  both_values : (x y : Option ℤ) (o : Operands ℤ) → two_values 2 (optional x) (optional y) ≡ some o → (x ≡ Some o.left) × (y ≡ Some o.right)
+  both_values (Some a) (Some b) o e = (cc, cc)
+  both_values (Some a) None o e = none_some e
+  both_values None y o e = none_some e
 
   -- ---- the tree of an expression and the values of its variables
 
@@ -392,33 +393,33 @@ module _ (ts : List Term) (ok : Proper ts) where
   -- ---- where there is no value, an operation is out of range
 
   module _ (values : List ℤ) where
-    abbrev Some : Type 0
-    Some = (i : ℕ) × OutAt ts values i
+    abbrev Out : Type 0
+    Out = (i : ℕ) × OutAt ts values i
 
     -- looked for from record i down
-    falls : (bound i : ℕ) → i < bound → i < n → value_at ts values i ≡ OutOfRange → Some
+    falls : (bound i : ℕ) → i < bound → i < n → value_at ts values i ≡ None → Out
     falls zero i l low e = absurd (omega arith)
     falls (suc bound) i l low e = go (is_variable (term_at ts i)) refl (λ j lj k f. falls bound j lj k f)
       where
         t : Term
         t = term_at ts i
 
-        by_values : is_variable t ≡ false → (x y : Computed) → value_at ts values t.left ≡ x → value_at ts values t.right ≡ y → combined (arithmetic_of t.kind) x y ≡ OutOfRange
-            → ((j : ℕ) → j < bound → j < n → value_at ts values j ≡ OutOfRange → Some) → Some
-        by_values v (Value a) (Value b) p q f rest = (i, record { low = low; operation = rw v; left = a; right = b; left_value = p; right_value = q; out_of_range = f })
-        by_values v (Value a) OutOfRange p q f rest = let z = (ok.operation i low v).right in rest t.right (omega arith) (omega arith) q
-        by_values v OutOfRange y p q f rest = let z = (ok.operation i low v).left in rest t.left (omega arith) (omega arith) p
+        by_values : is_variable t ≡ false → (x y : Option ℤ) → value_at ts values t.left ≡ x → value_at ts values t.right ≡ y → combined (arithmetic_of t.kind) x y ≡ None
+            → ((j : ℕ) → j < bound → j < n → value_at ts values j ≡ None → Out) → Out
+        by_values v (Some a) (Some b) p q f rest = (i, record { low = low; operation = rw v; left = a; right = b; left_value = p; right_value = q; out_of_range = f })
+        by_values v (Some a) None p q f rest = let z = (ok.operation i low v).right in rest t.right (omega arith) (omega arith) q
+        by_values v None y p q f rest = let z = (ok.operation i low v).left in rest t.left (omega arith) (omega arith) p
 
-        go : (b : Bool) → is_variable t ≡ b → ((j : ℕ) → j < bound → j < n → value_at ts values j ≡ OutOfRange → Some) → Some
+        go : (b : Bool) → is_variable t ≡ b → ((j : ℕ) → j < bound → j < n → value_at ts values j ≡ None → Out) → Out
         go true v rest = let z : ◌≡◌ {A = ℕ} 0 1 = cc (variable_value ts ok values i v, e) in absurd (omega arith)
         go false v rest = by_values v (value_at ts values t.left) (value_at ts values t.right) refl refl (sym (operation_value ts ok values i low v) ∙ e) rest
 
-    no_value : (x : Computed) → optional x ≡ none → x ≡ OutOfRange
-    no_value (Value v) e = none_some (sym e)
-    no_value OutOfRange e = refl
+    no_value : (x : Option ℤ) → optional x ≡ none → x ≡ None
+    no_value (Some v) e = none_some (sym e)
+    no_value None e = refl
 
     -- and an operation out of range leaves the last record without a value
-    rises : (i : ℕ) → OutAt ts values i → expression_value ts values ≡ OutOfRange
+    rises : (i : ℕ) → OutAt ts values i → expression_value ts values ≡ None
     rises i o =
         let low = o.low in
         let v = not-true (is_variable (term_at ts i)) o.operation in

@@ -1,6 +1,7 @@
 -- 02, R-3: without NEXT, ENTER and LEAVE every tag is at the root, so that an instruction fires once at most: the firings, and the outputs, are sums over the
 -- instructions that have fired (`tally`). Those are reached (`within`); and where nothing is enabled and no SWITCH or FETCH is reached, all that is reached and can
 -- fire has fired (`at_rest`). Assumes nothing.
+use Rattle.std.proofs.Common.{Ok}
 use Prim.Native.Nat.{ℕ, zero, suc, ◌+◌, ◌≤◌, ◌<◌}
 use mathlib.Core.Path.{◌≡◌, refl, sym, ap, subst, ◌∙◌}
 use mathlib.Core.Logic.{◌⊎◌, inl, inr}
@@ -31,7 +32,6 @@ use Rattle.machine.proofs.Reached.{reached_good, reached_invariants}
 use Rattle.machine.proofs.Kept.{Each, each_map, OfState, OfOperands, Keeps, found, reached_keeps}
 use Rattle.machine.proofs.Fired.{has_fired, spent_is, Marked, marked, start_none, fired_sent, there_stays_lem, fired_or_enabled}
 use Rattle.rules.specs.declared.answer.Refusal.TheVariants as Refusals
-use Rattle.rules.specs.declared.answer.Checked.TheVariants.{Passed}
 use Rattle.rules.specs.Check.{demand, any, in_turn, instruction_at, operands_at, check_graph, check_inputs}
 use Rattle.rules.specs.InstructionSet.{key_under, all_under, effect_in, is_result, arity_in, machine_of}
 use Rattle.rules.specs.Run.{token_held, first_state}
@@ -49,8 +49,8 @@ use Rattle.rules.proofs.RootTokens.{sends_own, input_there, port_among}
 
 -- ---- a graph and inputs that passed
 
-module _ (graph inputs : List ℕ) (table : List NamedArray) (capacity cells : ℕ) (passed : check_graph graph ≡ Passed)
-    (free : in_turn (λ i r. demand (loop_free r) Refusals.NotLoopFree i) 0 (graph_of graph) ≡ Passed) (accepted : check_inputs (graph_of graph) capacity inputs ≡ Passed) where
+module _ (graph inputs : List ℕ) (table : List NamedArray) (capacity cells : ℕ) (passed : check_graph graph ≡ Ok tt)
+    (free : in_turn (λ i r. demand (loop_free r) Refusals.NotLoopFree i) 0 (graph_of graph) ≡ Ok tt) (accepted : check_inputs (graph_of graph) capacity inputs ≡ Ok tt) where
   abbrev g : List Instruction
   g = graph_of graph
 

@@ -1,5 +1,6 @@
 -- Every token and every cell of a run, of a profile and of a replay fits its record, where graph and inputs are bytes: so that the bytes of a token tell which token it is.
 -- The tokens fit the ledger, and the cells are as many as there are. Assumes nothing.
+use Rattle.std.proofs.Common.{Ok, Err}
 use Prim.Native.Nat.{ℕ, zero, suc, ◌/◌, ◌%◌, ◌^◌, ◌<◌, ◌≤◌}
 use mathlib.Core.Path.{◌≡◌, refl, sym, subst, ◌∙◌}
 use mathlib.Core.Bool.{Bool, true, false, cond}
@@ -15,7 +16,8 @@ use mir.Val.{SFits}
 use borrow.Author.Tests.{leb-true}
 use Rattle.record.specs.declared.tag.Tag.{Tag}
 use Rattle.record.specs.declared.array.NamedArray.{NamedArray}
-use Rattle.record.specs.declared.tag.Left.TheVariants.{To, NoCaller}
+use Rattle.record.specs.declared.tag.Caller.{Caller}
+use Rattle.std.specs.Prelude.{Option, Some, None}
 use Rattle.record.specs.declared.instruction.Destination.{Destination}
 use Rattle.record.specs.declared.instruction.Instruction.{Instruction}
 use Rattle.record.specs.declared.operation.Operation.TheVariants as Operations
@@ -32,6 +34,7 @@ use Rattle.record.specs.Calls.{entered, leave_of}
 use Rattle.record.specs.GraphRecords.{in_use, operation_of, graph_of, InstructionFits}
 use Rattle.record.specs.Arrays.{arrays_of}
 use Rattle.record.specs.GraphRecords as Graph
+use Rattle.record.proofs.Calls.{same_caller}
 use Rattle.record.proofs.Paths.{entered_fits, left_fits}
 use Rattle.record.proofs.Fitting.{token_fits, instruction_fits, rows_fit}
 use Rattle.buffer.proofs.Tables.{length_rows}
@@ -44,11 +47,9 @@ use Rattle.machine.specs.Replay.{replay}
 use Rattle.machine.proofs.Orders.{start_good}
 use Rattle.machine.proofs.Reached.{reached_good}
 use Rattle.machine.proofs.Kept.{Each, OfContent, OfToken, OfCell, OfState, Keeps, reached_keeps}
-use Rattle.rules.specs.declared.answer.Checked.{Checked}
-use Rattle.rules.specs.declared.answer.Checked.TheVariants.{Passed, Failed}
 use Rattle.rules.specs.declared.answer.Refusal.{Refusal}
 use Rattle.rules.specs.declared.answer.Refusal.TheVariants.{ProfileFull, NotEnabled}
-use Rattle.rules.specs.Check.{instruction_at, within, check_graph, check_stores, check_arrays, check, most_cells}
+use Rattle.rules.specs.Check.{instruction_at, within, check_graph, check_stores, check_arrays, check, most_cells, Checked}
 use Rattle.rules.specs.InstructionSet.{key_under, all_under, machine_of}
 use Rattle.rules.specs.Run.{content_held, content_record, token_held, token_record, cell_record, first_state, picks_of, refused_at_once, ran_to, result}
 use Rattle.rules.specs.Profile.{check_profile_stores, check_profile, profile_unless_failed, profiled}
@@ -94,7 +95,7 @@ module _ (r : Instruction) (f : InstructionFits r) where
   all_fit τ p = used_fit τ p r.fanout r.first r.second first_fits second_fits
 
 -- LEAVE's caller
-left : (τ : Tag) (site : ℕ) (caller : Tag) → Path τ → leave_of τ ≡ To site caller → Path caller
+left : (τ : Tag) (site : ℕ) (caller : Tag) → Path τ → leave_of τ ≡ Some (record { site = site; tag = caller }) → Path caller
 unfolding leave_of
 left τ site caller p e = go (is_root τ.path) e
   where
@@ -104,9 +105,9 @@ left τ site caller p e = go (is_root τ.path) e
     parent : Tag
     parent = record { path = path_words (n / 65536); iteration = n % 256; instruction = τ.instruction }
 
-    go : (b : Bool) → cond b NoCaller (To (n / 256 % 256) parent) ≡ To site caller → Path caller
+    go : (b : Bool) → cond {A = Option Caller} b None (Some (record { site = n / 256 % 256; tag = parent })) ≡ Some (record { site = site; tag = caller }) → Path caller
     go true f = let z : ◌≡◌ {A = ℕ} 0 1 = cc in absurd (omega arith)
-    go false f = let z : parent ≡ caller = cc in subst Path z (left_fits τ.path p.0, omega arith)
+    go false f = let z = (same_caller f).1 in subst Path z (left_fits τ.path p.0, omega arith)
 
 -- ---- of a graph that passed
 
@@ -115,7 +116,7 @@ unfolding within
 byte_site (pos n) e = omega (arith, leb-true n 255 (both (leb 0 n) (leb n 255) e).1)
 byte_site (negsuc n) e = let z : ◌≡◌ {A = ℕ} 0 1 = cc in absurd (omega arith)
 
-module _ (graph : List ℕ) (bytes : Bytes graph) (passed : check_graph graph ≡ Passed) (table : List NamedArray) (capacity cells : ℕ) where
+module _ (graph : List ℕ) (bytes : Bytes graph) (passed : check_graph graph ≡ Ok tt) (table : List NamedArray) (capacity cells : ℕ) where
   abbrev g : List Instruction
   g = graph_of graph
 
@@ -206,7 +207,7 @@ module _ (graph : List ℕ) (bytes : Bytes graph) (passed : check_graph graph �
 -- ---- whole runs
 
 -- of every end that is reached from the inputs
-pub ended_fits : (graph : List ℕ) → Bytes graph → check_graph graph ≡ Passed → (table : List NamedArray) (capacity cells : ℕ) → cells ≤ most_cells → (inputs : List ℕ) → Bytes inputs
+pub ended_fits : (graph : List ℕ) → Bytes graph → check_graph graph ≡ Ok tt → (table : List NamedArray) (capacity cells : ℕ) → cells ≤ most_cells → (inputs : List ℕ) → Bytes inputs
     → Start (machine_of (graph_of graph) table capacity cells) (first_state inputs cells) → (e : End Refusal Tag ℤ) (n o : ℕ) → Reached (machine_of (graph_of graph) table capacity cells) (first_state inputs cells) n o e.state
     → AllFit (ran_to e) capacity cells
 ended_fits graph graph_bytes passed table capacity cells few inputs input_bytes begun e n o r =
@@ -227,7 +228,7 @@ none_fits r p capacity count = record { tokens = tt; cells = tt; room = omega ar
 
 module _ (graph arrays inputs : List ℕ) (ledger cells : ℕ) (graph_bytes : Bytes graph) (input_bytes : Bytes inputs) where
   -- what is lawful fits, where the check passed
-  pub lawful_fits : (picks : ℕ) → check_stores (length inputs) picks ledger cells ≡ Passed → Accepted graph inputs (capacity_of ledger) → (e : End Refusal Tag ℤ) → LawfulResult graph arrays inputs ledger cells (ran_to e)
+  pub lawful_fits : (picks : ℕ) → check_stores (length inputs) picks ledger cells ≡ Ok tt → Accepted graph inputs (capacity_of ledger) → (e : End Refusal Tag ℤ) → LawfulResult graph arrays inputs ledger cells (ran_to e)
       → AllFit (ran_to e) (capacity_of ledger) (cells / cell_width)
   lawful_fits picks stores a e h =
       ended_fits graph graph_bytes a.graph_passed (arrays_of arrays) (capacity_of ledger) (cells / cell_width) (whole_bytes cell_width most_cells cells (stores_whole (length inputs) picks ledger cells stores).whole_cells).1 inputs input_bytes
@@ -241,8 +242,8 @@ module _ (graph arrays inputs : List ℕ) (ledger cells : ℕ) (graph_bytes : By
       p = profile (machine_of (graph_of graph) (arrays_of arrays) (capacity_of ledger) (cells / cell_width)) ProfileFull (lent / 4) 0 (first_state inputs (cells / cell_width))
 
       go : (c : Checked) → check_profile graph arrays inputs ledger cells lent ≡ c → LawfulResult graph arrays inputs ledger cells (profile_unless_failed c p).result → AllFit (profile_unless_failed c p).result (capacity_of ledger) (cells / cell_width)
-      go (Failed r n) e h = none_fits r n (capacity_of ledger) (cells / cell_width)
-      go Passed e h =
+      go (Err fault) e h = none_fits fault.refusal fault.place (capacity_of ledger) (cells / cell_width)
+      go (Ok _) e h =
           let (stores, (named, a)) = accepted graph inputs (capacity_of ledger) (check_profile_stores (length inputs) ledger cells lent) (check_arrays (graph_of graph) (cells / cell_width) arrays) e in
           lawful_fits 0 (and_then_passed (check_stores (length inputs) 0 ledger cells) _ stores).0 a p.ended h
 

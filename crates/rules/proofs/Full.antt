@@ -1,5 +1,6 @@
 -- R-1: how many steps a profile has (`no_more_steps_lem`), and where it is refused by 18: only with all its records written (`where_full`), and never with 2,048 of
 -- them (`never_full`). Assumes nothing.
+use Rattle.std.proofs.Common.{Ok, Err}
 use Prim.Native.Nat.{ℕ, ◌/◌, ◌≤◌, ◌<◌}
 use mathlib.Core.Path.{◌≡◌, refl, sym, ap, ◌∙◌}
 use mathlib.Core.List.{List}
@@ -18,12 +19,11 @@ use Rattle.machine.specs.Steps.{Profile, firings_in, profile}
 use Rattle.machine.proofs.Ending.{ending_rests}
 use Rattle.machine.proofs.Sequences.{shorter, no_longer}
 use Rattle.machine.proofs.Steps.{every_profile, no_more_than_firings, ProfileStopped, Profiled, none_left_lem, full, one_refused}
+use Rattle.rules.specs.Check.{Checked, fault_at}
 use Rattle.rules.specs.declared.answer.Refusal.{Refusal}
 use Rattle.rules.specs.declared.answer.Refusal.TheVariants.{ProfileFull}
 use Rattle.rules.specs.declared.answer.Outcome as AnswerOutcome
 use Rattle.rules.specs.declared.answer.Outcome.TheVariants as Outcomes
-use Rattle.rules.specs.declared.answer.Checked.{Checked}
-use Rattle.rules.specs.declared.answer.Checked.TheVariants.{Passed, Failed}
 use Rattle.rules.specs.Answer.{number_of, word_of, place_in}
 use Rattle.rules.specs.InstructionSet.{machine_of}
 use Rattle.rules.specs.Run.{first_state, outcome_of, answer}
@@ -93,14 +93,14 @@ module _ (graph inputs : List ℕ) (table : List NamedArray) (capacity cells : �
 -- ---- over bytes
 
 -- no check gives 18
-checked_not : (graph arrays inputs : List ℕ) (ledger cells lent place : ℕ) (r : Refusal) (n : ℕ) → check_profile graph arrays inputs ledger cells lent ≡ Failed r n → ¬ (Outcomes.Refused r n ≡ Outcomes.Refused ProfileFull place)
+checked_not : (graph arrays inputs : List ℕ) (ledger cells lent place : ℕ) (r : Refusal) (n : ℕ) → check_profile graph arrays inputs ledger cells lent ≡ Err (fault_at r n) → ¬ (Outcomes.Refused r n ≡ Outcomes.Refused ProfileFull place)
 checked_not graph arrays inputs ledger cells lent place r n e h =
     let z : number_of r ≡ 18 = (full_word _ place h).0 in
     let common : Common r = rw e at (profile_early graph arrays inputs ledger cells lent) in
     common.not_full_lem z
 
 module _ (graph arrays inputs : List ℕ) (ledger cells lent : ℕ) where
-  few_records : (e : check_profile graph arrays inputs ledger cells lent ≡ Passed) → capacity_of ledger ≤ most_tokens
+  few_records : (e : check_profile graph arrays inputs ledger cells lent ≡ Ok tt) → capacity_of ledger ≤ most_tokens
   few_records e = (whole_bytes token_width most_tokens ledger (wholes graph arrays inputs ledger cells lent e).0.whole_ledger).1
 
 pub no_more_steps_lem : NoMoreSteps
@@ -109,8 +109,8 @@ no_more_steps_lem graph arrays inputs ledger cells lent = go (check_profile grap
   where
     go : (c : Checked) → check_profile graph arrays inputs ledger cells lent ≡ c
         → (length (profiled graph arrays inputs ledger cells lent).records ≤ (answer (profiled graph arrays inputs ledger cells lent).result).firings) × ((answer (profiled graph arrays inputs ledger cells lent).result).firings ≤ most_tokens)
-    go (Failed r n) e = rw e (omega arith, omega arith)
-    go Passed e = rw e (counts graph inputs (arrays_of arrays) (capacity_of ledger) (cells / cell_width) (few_records graph arrays inputs ledger cells lent e) (wholes graph arrays inputs ledger cells lent e).1.1 (lent / step_width))
+    go (Err fault) e = rw e (omega arith, omega arith)
+    go (Ok _) e = rw e (counts graph inputs (arrays_of arrays) (capacity_of ledger) (cells / cell_width) (few_records graph arrays inputs ledger cells lent e) (wholes graph arrays inputs ledger cells lent e).1.1 (lent / step_width))
 
 pub where_full : WhereFull
 unfolding profiled profile_unless_failed answer
@@ -118,8 +118,8 @@ where_full graph arrays inputs ledger cells lent place = go (check_profile graph
   where
     go : (c : Checked) → check_profile graph arrays inputs ledger cells lent ≡ c → (answer (profiled graph arrays inputs ledger cells lent).result).outcome ≡ Outcomes.Refused ProfileFull place
         → Full (profiled graph arrays inputs ledger cells lent) place lent
-    go (Failed r n) e h = absurd (checked_not graph arrays inputs ledger cells lent place r n e (rw e at h))
-    go Passed e h =
+    go (Err fault) e h = absurd (checked_not graph arrays inputs ledger cells lent place fault.refusal fault.place e (rw e at h))
+    go (Ok _) e h =
         let z = stopped graph inputs (arrays_of arrays) (capacity_of ledger) (cells / cell_width) (few_records graph arrays inputs ledger cells lent e) (wholes graph arrays inputs ledger cells lent e).1.1 (lent / step_width) place (rw e at h) in
         rw e (record { at_none = z.at_none; written = z.written; firings = z.firings })
 
@@ -128,6 +128,6 @@ unfolding profiled profile_unless_failed answer
 never_full graph arrays inputs ledger cells lent place enough = go (check_profile graph arrays inputs ledger cells lent) refl
   where
     go : (c : Checked) → check_profile graph arrays inputs ledger cells lent ≡ c → ¬ ((answer (profiled graph arrays inputs ledger cells lent).result).outcome ≡ Outcomes.Refused ProfileFull place)
-    go (Failed r n) e h = checked_not graph arrays inputs ledger cells lent place r n e (rw e at h)
-    go Passed e h =
+    go (Err fault) e h = checked_not graph arrays inputs ledger cells lent place fault.refusal fault.place e (rw e at h)
+    go (Ok _) e h =
         not_full graph inputs (arrays_of arrays) (capacity_of ledger) (cells / cell_width) (few_records graph arrays inputs ledger cells lent e) (wholes graph arrays inputs ledger cells lent e).1.1 (lent / step_width) place (omega arith) (rw e at h)

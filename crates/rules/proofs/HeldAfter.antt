@@ -1,5 +1,6 @@
 -- Which activities a firing holds back or frees: where a tag stands is told level by level (`stands_step`); counts are sums by weights of tags (`counts_by_weights`); what was held is
 -- free only where an iteration of its path is closed (`freed_by_closing`), and what was free is held only by an ENTER into its path (`held_anew`). Assumes nothing.
+use Rattle.std.proofs.Common.{Ok}
 use Prim.Native.Nat.{ℕ, zero, suc, ◌+◌, ◌/◌, ◌%◌, ◌≤◌, ◌<◌}
 use mathlib.Core.Path.{◌≡◌, refl, sym, ap, subst, ◌∙◌}
 use mathlib.Core.Bool.{Bool, true, false, not, ◌&&◌, ◌||◌, cond}
@@ -14,8 +15,9 @@ use borrow.Author.Tests.{eqb-true, eqb-false, eq-eqb, ne_eqb, leb-true, le-leb}
 use Rattle.record.specs.declared.array.NamedArray.{NamedArray}
 use Rattle.record.specs.declared.tag.Path.{Path}
 use Rattle.record.specs.declared.tag.Tag.{Tag}
-use Rattle.record.specs.declared.tag.Left.{Left}
-use Rattle.record.specs.declared.tag.Left.TheVariants.{To, NoCaller}
+use Rattle.record.specs.declared.tag.Caller.{Caller}
+use Rattle.std.specs.Prelude.{Option as Maybe, Some, None}
+use Rattle.std.proofs.lemmas.Option.{none-some}
 use Rattle.record.specs.declared.instruction.Destination.{Destination}
 use Rattle.record.specs.declared.instruction.Instruction.{Instruction}
 use Rattle.record.specs.declared.operation.Operation.TheVariants as Operations
@@ -24,14 +26,13 @@ use Rattle.record.specs.Paths.{path_number, path_words, is_root, same_path, Path
 use Rattle.record.specs.Calls.{leave_of, entered}
 use Rattle.record.specs.GraphRecords.{graph_of, destinations, operation_of}
 use Rattle.record.proofs.Paths.{number_words, same_path_lem}
-use Rattle.record.proofs.Calls.{leave_entered}
+use Rattle.record.proofs.Calls.{same_caller, leave_entered}
 use Rattle.machine.specs.Machine.{Key, Content, live, spent, deferred, Token, State, Activity, refuse, send, read, write, Machine, fired, when, on_option, is_proper, changed, output, spend, find, look, same_key, at, is_operand_of, fire}
 use Rattle.machine.specs.Orders.{Good, effect_keys}
 use Rattle.machine.proofs.View.{none_some, false_true, settle, change, operand_live, operand_zero, operand_key}
 use Rattle.machine.proofs.Kept.{Each, OfEffect}
 use Rattle.machine.proofs.Reached.{keys_known}
 use Rattle.machine.proofs.Pending.{FiredAs, fired_after, new_tokens, pending_in}
-use Rattle.rules.specs.declared.answer.Checked.TheVariants.{Passed}
 use Rattle.rules.specs.Check.{any, instruction_at, check_graph}
 use Rattle.rules.specs.InstructionSet.{EffectHere, key_under, all_under, effect_of, effect_in, arity_in, machine_of}
 use Rattle.rules.specs.Saved.{on_left}
@@ -72,7 +73,7 @@ pub record EnteredHere (g : List Instruction) (s : State Tag ℤ) (τ : Tag) (x 
   pub there : key.tag.path ≡ path
 
 abbrev pub HeldAnew : Type 0
-HeldAnew = (graph : List ℕ) → check_graph graph ≡ Passed → (table : List NamedArray) (capacity cells k : ℕ) (s : State Tag ℤ) → Good (machine_of (graph_of graph) table capacity cells) s
+HeldAnew = (graph : List ℕ) → check_graph graph ≡ Ok tt → (table : List NamedArray) (capacity cells k : ℕ) (s : State Tag ℤ) → Good (machine_of (graph_of graph) table capacity cells) s
     → (τ : Tag) → PathFits τ.path → τ.iteration < 256 → (x : State Tag ℤ) → fire (machine_of (graph_of graph) table capacity cells) s τ ≡ fired x
     → (a : Activity Tag) → held_in (graph_of graph) k s a ≡ false → held_in (graph_of graph) k x a ≡ true → EnteredHere (graph_of graph) s τ x a.tag.path
 
@@ -82,8 +83,8 @@ HeldAnew = (graph : List ℕ) → check_graph graph ≡ Passed → (table : List
 abbrev caller_in : Path → (instruction : ℕ) → Tag
 caller_in q i = record { path = path_words (path_number q / 65536); iteration = path_number q % 256; instruction = i }
 
-abbrev left_in : Path → (instruction : ℕ) → (root : Bool) → Left
-left_in q i b = cond b NoCaller (To (path_number q / 256 % 256) (caller_in q i))
+abbrev left_in : Path → (instruction : ℕ) → (root : Bool) → Maybe Caller
+left_in q i b = cond b None (Some (record { site = path_number q / 256 % 256; tag = caller_in q i }))
 
 -- its path and its iteration tell
 same_stands : (n : ℕ) (p q : Path) (iteration a b : ℕ)
@@ -149,11 +150,11 @@ stands_below (suc n) p τ j e = go (same_path τ.path p) (is_root τ.path) refl 
     go false true h e f rest = none_some f
     go false false h e f rest = let z = number_falls τ.path e in omega (arith, rest f, z.0, z.1)
 
-left_none : (τ : Tag) → is_root τ.path ≡ true → leave_of τ ≡ NoCaller
+left_none : (τ : Tag) → is_root τ.path ≡ true → leave_of τ ≡ None
 unfolding leave_of
 left_none τ e = rw e
 
-left_some : (τ : Tag) → is_root τ.path ≡ false → leave_of τ ≡ To (path_number τ.path / 256 % 256) (caller_in τ.path τ.instruction)
+left_some : (τ : Tag) → is_root τ.path ≡ false → leave_of τ ≡ Some (record { site = path_number τ.path / 256 % 256; tag = caller_in τ.path τ.instruction })
 unfolding leave_of
 left_some τ e = rw e
 
@@ -167,7 +168,7 @@ data SentFrom (τ : Tag) (k : Key Tag) (p : Path) (j : ℕ) (enter : Type 0) : T
 abbrev Any : {A : Type 0} → A → Type 0
 Any x = Unit {0}
 
-module _ (graph : List ℕ) (passed : check_graph graph ≡ Passed) (table : List NamedArray) (capacity cells : ℕ) (τ : Tag) (word : PathFits τ.path) (low : τ.iteration < 256) where
+module _ (graph : List ℕ) (passed : check_graph graph ≡ Ok tt) (table : List NamedArray) (capacity cells : ℕ) (τ : Tag) (word : PathFits τ.path) (low : τ.iteration < 256) where
   abbrev g : List Instruction
   g = graph_of graph
 
@@ -211,7 +212,7 @@ module _ (graph : List ℕ) (passed : check_graph graph ≡ Passed) (table : Lis
       tag : Tag
       tag = entered caller site
 
-      leaves : leave_of tag ≡ To site caller
+      leaves : leave_of tag ≡ Some (record { site = site; tag = caller })
       leaves = let c = (enters graph passed τ.instruction τ.iteration low e).fits in leave_entered caller site word.low low c.some c.site
 
       go : (b : Bool) → same_path tag.path p ≡ b → cond b (some tag.iteration) (on_left (leave_of tag) none (λ site c. stands_in p c)) ≡ some j
@@ -219,7 +220,7 @@ module _ (graph : List ℕ) (passed : check_graph graph ≡ Passed) (table : Lis
       go true q f = entering (eqb-true r.code 8 (coded r.code e)) (same_path_lem tag.path p q)
       go false q f = stood j (sym (stands_to p τ r.first.instruction) ∙ rw leaves at f) (omega arith)
 
-  under_left : (site : ℕ) (caller : Tag) → leave_of τ ≡ To site caller → (i : ℕ) → P (record { tag = to_of caller i; port = 0 })
+  under_left : (site : ℕ) (caller : Tag) → leave_of τ ≡ Some (record { site = site; tag = caller }) → (i : ℕ) → P (record { tag = to_of caller i; port = 0 })
   unfolding stands_in
   under_left site caller h i p j e =
       let here : stands_in p caller ≡ some j = sym (stands_to p caller i) ∙ e in
@@ -228,13 +229,13 @@ module _ (graph : List ℕ) (passed : check_graph graph ≡ Passed) (table : Lis
       let other : same_path τ.path p ≡ false = not_same τ.path p (λ z. let y = ap path_number z in omega arith) in
       stood j (stands_step p τ ∙ rw (other, h) here) (omega arith)
     where
-      caller_below : leave_of τ ≡ To site caller → path_number caller.path < path_number τ.path
+      caller_below : leave_of τ ≡ Some (record { site = site; tag = caller }) → path_number caller.path < path_number τ.path
       caller_below f = go (is_root τ.path) refl f
         where
-          go : (b : Bool) → is_root τ.path ≡ b → leave_of τ ≡ To site caller → path_number caller.path < path_number τ.path
-          go true q k = let z : NoCaller ≡ To site caller = sym (left_none τ q) ∙ k in let y : ◌≡◌ {A = ℕ} 0 1 = cc in absurd (omega arith)
+          go : (b : Bool) → is_root τ.path ≡ b → leave_of τ ≡ Some (record { site = site; tag = caller }) → path_number caller.path < path_number τ.path
+          go true q k = absurd (none-some _ (sym (left_none τ q) ∙ k))
           go false q k =
-              let z : caller_in τ.path τ.instruction ≡ caller = cc (left_some τ q, k) in
+              let z = (same_caller (sym (left_some τ q) ∙ k)).1 in
               let y = ap (λ (t : Tag). path_number t.path) z in
               let n = number_falls τ.path q in
               omega (arith, y, n.0, n.1)
@@ -342,7 +343,7 @@ still f n false (live v) e = e
 still f n false (spent v) e = false_true e
 still f n false (deferred c) e = refl
 
-module _ (graph : List ℕ) (passed : check_graph graph ≡ Passed) (table : List NamedArray) (capacity cells k : ℕ) (s : State Tag ℤ) (good : Good (machine_of (graph_of graph) table capacity cells) s)
+module _ (graph : List ℕ) (passed : check_graph graph ≡ Ok tt) (table : List NamedArray) (capacity cells k : ℕ) (s : State Tag ℤ) (good : Good (machine_of (graph_of graph) table capacity cells) s)
     (τ : Tag) (word : PathFits τ.path) (low : τ.iteration < 256) (x : State Tag ℤ) (fires : fire (machine_of (graph_of graph) table capacity cells) s τ ≡ fired x) (p : Path) (m : ℕ) where
   abbrev M : Machine
   M = machine_of (graph_of graph) table capacity cells

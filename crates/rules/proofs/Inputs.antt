@@ -1,5 +1,6 @@
 -- Inputs that passed the check are a start: their keys are pairwise different, they fit the ledger, and each is live (`start`). Their tags are at the root, so
 -- that what holds of such keys holds of the first state (`start_keys`). Assumes nothing.
+use Rattle.std.proofs.Common.{Ok}
 use Prim.Native.Nat.{ℕ, zero, suc, ◌+◌, ◌/◌, ◌<◌}
 use mathlib.Core.Path.{◌≡◌, refl, sym, ap, ◌∙◌, subst}
 use mathlib.Core.Bool.{true, false, not}
@@ -27,7 +28,6 @@ use Rattle.machine.specs.Orders.{Live, Distinct, AllLive, Start}
 use Rattle.machine.proofs.View.{when_no, false_true}
 use Rattle.machine.proofs.Kept.{Each, each_map, OfContent, OfCell, OfToken, OfState}
 use Rattle.rules.specs.declared.answer.Refusal.TheVariants as Refusals
-use Rattle.rules.specs.declared.answer.Checked.TheVariants.{Passed}
 use Rattle.rules.specs.Check.{demand, any, in_turn, good_input, second_input, check_inputs, operands_at}
 use Rattle.rules.specs.InstructionSet.{machine_of}
 use Rattle.rules.specs.Run.{content_held, token_held, first_state}
@@ -50,7 +50,7 @@ input_live l e =
 
 -- what each good input has, all have
 inputs_each : (g : List Instruction) (P : Token → Type 0) → ((l : List ℕ) → good_input g l ≡ true → P (Tokens.decode_token l))
-    → (n i : ℕ) (l : List ℕ) → in_turn (λ k good. demand good Refusals.BadInput k) i (rows token_width (good_input g) n l) ≡ Passed → Each P (rows token_width Tokens.decode_token n l)
+    → (n i : ℕ) (l : List ℕ) → in_turn (λ k good. demand good Refusals.BadInput k) i (rows token_width (good_input g) n l) ≡ Ok tt → Each P (rows token_width Tokens.decode_token n l)
 inputs_each g P h zero i l e = tt
 inputs_each g P h (suc n) i l e =
     let parts = and_then_passed (demand (good_input g l) Refusals.BadInput i) _ e in
@@ -86,7 +86,7 @@ module _ (g : List Instruction) (table : List NamedArray) (capacity cells : ℕ)
   abbrev M : Machine
   M = machine_of g table capacity cells
 
-  inputs_live : (n i : ℕ) (l : List ℕ) → in_turn (λ k good. demand good Refusals.BadInput k) i (rows token_width (good_input g) n l) ≡ Passed → AllLive M (map token_held (rows token_width Tokens.decode_token n l))
+  inputs_live : (n i : ℕ) (l : List ℕ) → in_turn (λ k good. demand good Refusals.BadInput k) i (rows token_width (good_input g) n l) ≡ Ok tt → AllLive M (map token_held (rows token_width Tokens.decode_token n l))
   unfolding good_input
   inputs_live zero i l e = tt
   inputs_live (suc n) i l e =
@@ -101,7 +101,7 @@ module _ (g : List Instruction) (table : List NamedArray) (capacity cells : ℕ)
   -- what holds of every key at the root where an input stands, holds of the first state
   pub start_keys : (P : Key Tag → Type 0) (R : ℕ → Type 0) (inputs : List ℕ)
       → ((t : Token) → t.tag ≡ root_of t.tag.instruction → t.port < operands_at g t.tag.instruction → any (stands_at t.tag t.port) (all_rows token_width Tokens.decode_token inputs) ≡ true → P (token_held t).key)
-      → check_inputs g capacity inputs ≡ Passed → OfState M P (λ v. Unit {0}) R (first_state inputs cells)
+      → check_inputs g capacity inputs ≡ Ok tt → OfState M P (λ v. Unit {0}) R (first_state inputs cells)
   unfolding check_inputs first_state good_input
   start_keys P R inputs h e = record {
     tokens = each_map (λ t. Input t × (any (stands_at t.tag t.port) ts ≡ true)) (OfToken M P (λ v. Unit {0}) R) token_held (λ t ((root, port, content), own). (h t root port own, content)) ts
@@ -141,7 +141,7 @@ module _ (g : List Instruction) (table : List NamedArray) (capacity cells : ℕ)
   )
 
   -- by the check for 9
-  pub inputs_distinct : (ts : List Token) → in_turn (λ i t. demand (not (second_input (take i ts) t)) Refusals.SecondToken i) 0 ts ≡ Passed → Distinct M (map token_held ts)
+  pub inputs_distinct : (ts : List Token) → in_turn (λ i t. demand (not (second_input (take i ts) t)) Refusals.SecondToken i) 0 ts ≡ Ok tt → Distinct M (map token_held ts)
   unfolding second_input
   inputs_distinct ts e = all_different d ts (λ k h.
       let at = turn_passed (λ i t. demand (not (second_input (take i ts) t)) Refusals.SecondToken i) d 0 ts e k h in
@@ -152,7 +152,7 @@ module _ (g : List Instruction) (table : List NamedArray) (capacity cells : ℕ)
 
   -- ---- a start
 
-  pub start : (inputs : List ℕ) → check_inputs g capacity inputs ≡ Passed → Start M (first_state inputs cells)
+  pub start : (inputs : List ℕ) → check_inputs g capacity inputs ≡ Ok tt → Start M (first_state inputs cells)
   unfolding check_inputs first_state
   start inputs e =
       let ts = all_rows token_width Tokens.decode_token inputs in

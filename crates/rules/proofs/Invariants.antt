@@ -1,5 +1,6 @@
 -- Of every result of a run, of a profile and of a replay the invariants hold (`result_invariants`, `profile_invariants`, `replay_invariants`): each is a firing
 -- sequence from the inputs. Assumes nothing.
+use Rattle.std.proofs.Common.{Ok, Err}
 use Prim.Native.Nat.{ℕ, ◌/◌}
 use native.Mathlib.Nat.{zero-add}
 use mathlib.Core.Path.{◌≡◌, refl, sym, subst, ◌∙◌}
@@ -21,9 +22,7 @@ use Rattle.machine.proofs.Steps.{every_profile}
 use Rattle.machine.proofs.Replay.{every_replay}
 use Rattle.rules.specs.declared.answer.Refusal.{Refusal}
 use Rattle.rules.specs.declared.answer.Refusal.TheVariants.{ProfileFull, NotEnabled}
-use Rattle.rules.specs.declared.answer.Checked.{Checked}
-use Rattle.rules.specs.declared.answer.Checked.TheVariants.{Passed, Failed}
-use Rattle.rules.specs.Check.{check_stores, check_arrays, check}
+use Rattle.rules.specs.Check.{check_stores, check_arrays, check, Checked}
 use Rattle.rules.specs.InstructionSet.{machine_of}
 use Rattle.rules.specs.Run.{first_state, picks_of, result}
 use Rattle.rules.specs.Profile.{check_profile_stores, check_profile, profile_unless_failed, profiled}
@@ -60,8 +59,8 @@ profile_invariants graph arrays inputs ledger cells lent = go (check_profile gra
   where
     go : (c : Checked) → check_profile graph arrays inputs ledger cells lent ≡ c
         → LawfulResult graph arrays inputs ledger cells (profile_unless_failed c (profile (machine_of (graph_of graph) (arrays_of arrays) (capacity_of ledger) (cells / cell_width)) ProfileFull (lent / 4) 0 (first_state inputs (cells / cell_width)))).result
-    go (Failed r p) e = tt
-    go Passed e =
+    go (Err fault) e = tt
+    go (Ok _) e =
         let a = (accepted graph inputs (capacity_of ledger) (check_profile_stores (length inputs) ledger cells lent) (check_arrays (graph_of graph) (cells / cell_width) arrays) e).1.1 in
         let M = machine_of (graph_of graph) (arrays_of arrays) (capacity_of ledger) (cells / cell_width) in
         let s = first_state inputs (cells / cell_width) in

@@ -1,5 +1,6 @@
 -- The instruction set of a graph that passed the check is lawful: an effect names only cells below the count, and a FETCH has an output at least.
 -- Assumes nothing.
+use Rattle.std.proofs.Common.{Ok}
 use Prim.Native.Nat.{ℕ, zero, suc, ◌+◌, ◌<◌, ◌≤◌}
 use mathlib.Core.Path.{◌≡◌, refl, sym, ap, ◌∙◌, subst}
 use mathlib.Core.Bool.{Bool, true, false, ◌&&◌, cond}
@@ -11,14 +12,10 @@ use lib.ListN.{length, get_or, length-map}
 use lib.Dec.{eqb, leb, ltb}
 use lib.IntN.{ℤ, pos, negsuc, nat_abs}
 use borrow.Author.Tests.{ltb-true, leb-true}
+use Rattle.std.specs.Prelude.{Option, None, Some}
 use Rattle.record.specs.declared.tag.Tag.{Tag}
 use Rattle.record.specs.declared.array.NamedArray.{NamedArray}
-use Rattle.record.specs.declared.tag.Entered.{Entered}
-use Rattle.record.specs.declared.tag.Entered.TheVariants.{In, TooDeep}
-use Rattle.record.specs.declared.tag.Left.{Left}
-use Rattle.record.specs.declared.tag.Left.TheVariants.{To, NoCaller}
-use Rattle.record.specs.declared.tag.Next.{Next}
-use Rattle.record.specs.declared.tag.Next.TheVariants.{Is, Last}
+use Rattle.record.specs.declared.tag.Caller.{Caller}
 use Rattle.record.specs.declared.instruction.Destination.{Destination}
 use Rattle.record.specs.declared.instruction.Instruction.{Instruction}
 use Rattle.record.specs.declared.operation.Operation.{Operation}
@@ -26,13 +23,10 @@ use Rattle.record.specs.declared.operation.Operation.TheVariants as Operations
 use Rattle.record.specs.GraphRecords.{Row, row_with, row_of, operation_of, in_use, destinations, graph_of, is_graph_length}
 use Rattle.record.specs.GraphRecords as Graph
 use Rattle.record.specs.Calls.{next_of, enter_of, leave_of}
-use Rattle.arithmetic.specs.declared.Computed.{Computed}
-use Rattle.arithmetic.specs.declared.Computed.TheVariants.{Value, OutOfRange}
 use Rattle.arithmetic.specs.Arithmetic.{compute_of}
 use Rattle.machine.specs.Machine.{Key, refuse, send, read, write}
 use Rattle.machine.specs.Orders.{CellsBelow, ReadsForSome, Lawful}
 use Rattle.rules.specs.declared.answer.Refusal.TheVariants as Refusals
-use Rattle.rules.specs.declared.answer.Checked.TheVariants.{Passed}
 use Rattle.rules.specs.Check.{demand, in_turn, fan_out_allowed, unused_are_zero, check_record, check_graph, instruction_at}
 use Rattle.rules.specs.InstructionSet.{EffectOver, key_under, all_under, send_computed, send_next, send_entered, send_returned, return_of, send_left, on_cell, cell_number, effect_of, effect_in, machine_of}
 use Rattle.rules.proofs.Passed.{both, demand_passed, and_then_passed, turn_passed, get_d_past}
@@ -91,20 +85,20 @@ Plain (send v keys) = Unit {0}
 Plain (read c keys) = ⊥
 Plain (write c v keys) = ⊥
 
-computed_plain : (c : Computed) (keys : List (Key Tag)) → Plain (send_computed c keys)
+computed_plain : (c : Option ℤ) (keys : List (Key Tag)) → Plain (send_computed c keys)
 unfolding send_computed
-computed_plain (Value v) keys = tt
-computed_plain OutOfRange keys = tt
+computed_plain (Some v) keys = tt
+computed_plain None keys = tt
 
-next_plain : {W : Type 0} (n : Next) (r : Instruction) (v : W) → Plain (send_next n r v)
+next_plain : {W : Type 0} (n : Option Tag) (r : Instruction) (v : W) → Plain (send_next n r v)
 unfolding send_next
-next_plain (Is τ) r v = tt
-next_plain Last r v = tt
+next_plain (Some τ) r v = tt
+next_plain None r v = tt
 
-entered_plain : {W : Type 0} (e : Entered) (r : Instruction) (v : W) → Plain (send_entered e r v)
+entered_plain : {W : Type 0} (e : Option Tag) (r : Instruction) (v : W) → Plain (send_entered e r v)
 unfolding send_entered
-entered_plain (In τ) r v = tt
-entered_plain TooDeep r v = tt
+entered_plain (Some τ) r v = tt
+entered_plain None r v = tt
 
 cond_plain : {W : Type 0} (b : Bool) (x y : EffectOver W) → Plain x → Plain y → Plain (cond b x y)
 cond_plain true x y p q = p
@@ -114,10 +108,10 @@ returned_plain : {W : Type 0} (g : List Instruction) (i k : ℕ) (τ : Tag) (v :
 unfolding send_returned
 returned_plain g i k τ v = cond_plain (ltb (i + k) (length g)) (send v _) (refuse Refusals.NoReturn) tt tt
 
-left_plain : {W : Type 0} (g : List Instruction) (l : Left) (r : Instruction) (v : W) → Plain (send_left g l r v)
+left_plain : {W : Type 0} (g : List Instruction) (l : Option Caller) (r : Instruction) (v : W) → Plain (send_left g l r v)
 unfolding send_left
-left_plain g NoCaller r v = tt
-left_plain g (To site τ) r v = returned_plain g (return_of site g) (nat_abs r.constant) τ v
+left_plain g None r v = tt
+left_plain g (Some c) r v = returned_plain g (return_of c.site g) (nat_abs r.constant) c.tag v
 
 -- ---- lawful effects
 
@@ -130,13 +124,13 @@ plain_lawful n (send v keys) p = (tt, tt)
 plain_lawful n (read c keys) p = absurd p
 plain_lawful n (write c v keys) p = absurd p
 
-pub next_lawful : {W : Type 0} (n : ℕ) (x : Next) (r : Instruction) (v : W) → LawfulEffect n (send_next x r v)
+pub next_lawful : {W : Type 0} (n : ℕ) (x : Option Tag) (r : Instruction) (v : W) → LawfulEffect n (send_next x r v)
 next_lawful n x r v = plain_lawful n (send_next x r v) (next_plain x r v)
 
-pub entered_lawful : {W : Type 0} (n : ℕ) (e : Entered) (r : Instruction) (v : W) → LawfulEffect n (send_entered e r v)
+pub entered_lawful : {W : Type 0} (n : ℕ) (e : Option Tag) (r : Instruction) (v : W) → LawfulEffect n (send_entered e r v)
 entered_lawful n e r v = plain_lawful n (send_entered e r v) (entered_plain e r v)
 
-pub left_lawful : {W : Type 0} (n : ℕ) (g : List Instruction) (l : Left) (r : Instruction) (v : W) → LawfulEffect n (send_left g l r v)
+pub left_lawful : {W : Type 0} (n : ℕ) (g : List Instruction) (l : Option Caller) (r : Instruction) (v : W) → LawfulEffect n (send_left g l r v)
 left_lawful n g l r v = plain_lawful n (send_left g l r v) (left_plain g l r v)
 
 -- a cell that an operand names is below the count, or the firing is refused
@@ -176,14 +170,14 @@ in_use_lem zero d e h = h
 in_use_lem (suc zero) d e h = omega arith
 in_use_lem (suc (suc n)) d e h = omega arith
 
-module _ (graph : List ℕ) (passed : check_graph graph ≡ Passed) where
+module _ (graph : List ℕ) (passed : check_graph graph ≡ Ok tt) where
   -- an instruction of the graph passed, and past the graph there is none
-  record_passed : (i : ℕ) → i < length (graph_of graph) → check_record (graph_of graph) i (instruction_at (graph_of graph) i) ≡ Passed
+  record_passed : (i : ℕ) → i < length (graph_of graph) → check_record (graph_of graph) i (instruction_at (graph_of graph) i) ≡ Ok tt
   unfolding check_graph instruction_at
   record_passed i h =
       let g = graph_of graph in
       let turns = (and_then_passed (demand (is_graph_length (length graph)) Refusals.GraphLength 0) (in_turn (check_record g) 0 g) passed).1 in
-      subst (λ (m : ℕ). check_record g m (get_or g i (Graph.decode_instruction [])) ≡ Passed) (zero-add i) (turn_passed (check_record g) (Graph.decode_instruction []) 0 g turns i h)
+      subst (λ (m : ℕ). check_record g m (get_or g i (Graph.decode_instruction [])) ≡ Ok tt) (zero-add i) (turn_passed (check_record g) (Graph.decode_instruction []) 0 g turns i h)
 
   -- the fan-out of an instruction is at least what the table says
   fan_out_enough : (i : ℕ) → i < length (graph_of graph) → (row_of (instruction_at (graph_of graph) i).code).least_fan_out ≤ (instruction_at (graph_of graph) i).fanout

@@ -1,6 +1,7 @@
 -- Demands 1 and 2, proved (`demand1`, `demand2`): a refusal before any firing writes nothing; a refused firing leaves ledger and cells as it found them; bytes
 -- past what is written stay as lent; a run first sets all cells absent and writes its inputs, and then fires by the rules. All of it follows from `result`,
 -- `answer`, `ledger_after` and `cells_after`, by which the promise of `run` is made. Assumes nothing.
+use Rattle.std.proofs.Common.{Ok, Err}
 use Prim.Native.Nat.{ℕ, zero, suc, ◌*◌, ◌/◌, ◌%◌, ◌<◌, ◌≤◌}
 use mathlib.Core.Path.{◌≡◌, refl, sym, ap, ◌∙◌}
 use mathlib.Core.Bool.{true}
@@ -37,8 +38,7 @@ use Rattle.machine.proofs.Parts.{next_firing}
 use Rattle.rules.specs.declared.answer.Refusal.{Refusal}
 use Rattle.rules.specs.declared.answer.Refusal.TheVariants as Refusals
 use Rattle.rules.specs.declared.answer.Outcome.TheVariants as Outcomes
-use Rattle.rules.specs.declared.answer.Checked.TheVariants.{Passed, Failed}
-use Rattle.rules.specs.Check.{demand, in_turn, good_input, operands_at, check_stores, check_arrays, check_inputs, check, most_cells}
+use Rattle.rules.specs.Check.{demand, in_turn, good_input, operands_at, check_stores, check_arrays, check_inputs, check, most_cells, fault_at}
 use Rattle.rules.specs.InstructionSet.{machine_of}
 use Rattle.rules.specs.Run.{content_held, content_record, token_held, token_record, cell_record, first_state, picks_of, Result, refused_at_once, ran_to, outcome_of, unless_failed, result, answer, ledger_after, cells_after}
 use Rattle.rules.specs.Demand1.{Untouched, AsBefore, Demand1}
@@ -53,7 +53,7 @@ unfolding answer ledger_after cells_after
 at_once_lem r place ledger cells = record { answered = refl; ledger_left = refl; cells_left = refl }
 
 -- for a refusal that the check finds, whatever ledger and cells held
-refused_before_firing_lem : (graph arrays inputs picks : List ℕ) (budget : ℕ) (ledger cells : List ℕ) (r : Refusal) (place : ℕ) → check graph arrays inputs picks (length ledger) (length cells) ≡ Failed r place → Untouched (result graph arrays inputs picks budget (length ledger) (length cells)) r place ledger cells
+refused_before_firing_lem : (graph arrays inputs picks : List ℕ) (budget : ℕ) (ledger cells : List ℕ) (r : Refusal) (place : ℕ) → check graph arrays inputs picks (length ledger) (length cells) ≡ Err (fault_at r place) → Untouched (result graph arrays inputs picks budget (length ledger) (length cells)) r place ledger cells
 unfolding result unless_failed
 refused_before_firing_lem graph arrays inputs picks budget ledger cells r place failed = rw failed (at_once_lem r place ledger cells)
 
@@ -74,7 +74,7 @@ as_before_lem : (e d : End Refusal Tag ℤ) → d ≡ record { outcome = budget_
 unfolding answer ledger_after cells_after
 as_before_lem e d same ledger cells = rw same (record { stopped = refl; ledger_left = refl; cells_left = refl })
 
-refused_firing_lem : (graph arrays inputs picks : List ℕ) (budget : ℕ) (ledger cells : List ℕ) → check graph arrays inputs picks (length ledger) (length cells) ≡ Passed → (r : Refusal) (place : ℕ)
+refused_firing_lem : (graph arrays inputs picks : List ℕ) (budget : ℕ) (ledger cells : List ℕ) → check graph arrays inputs picks (length ledger) (length cells) ≡ Ok tt → (r : Refusal) (place : ℕ)
     → (answer (result graph arrays inputs picks budget (length ledger) (length cells))).outcome ≡ Outcomes.Refused r place
     → AsBefore (result graph arrays inputs picks budget (length ledger) (length cells))
     (result graph arrays inputs picks (answer (result graph arrays inputs picks budget (length ledger) (length cells))).firings (length ledger) (length cells))
@@ -113,7 +113,7 @@ input_back l b long good =
     small k (yes h) = rw (get_or-take token_width l k 0 h) (b k)
     small k (no n) = rw (get_d_past (take token_width l) k 0 (omega (arith, length-take-le token_width l long))) (omega arith)
 
-inputs_back : (g : List Instruction) (n i : ℕ) (l : List ℕ) → Bytes l → n * token_width ≤ length l → in_turn (λ k good. demand good Refusals.BadInput k) i (rows token_width (good_input g) n l) ≡ Passed
+inputs_back : (g : List Instruction) (n i : ℕ) (l : List ℕ) → Bytes l → n * token_width ≤ length l → in_turn (λ k good. demand good Refusals.BadInput k) i (rows token_width (good_input g) n l) ≡ Ok tt
     → joined Tokens.encode_token (rows token_width Tokens.decode_token n l) ≡ joined (λ (r : List ℕ). r) (rows token_width (take token_width) n l)
 unfolding good_input
 inputs_back g zero i l b long e = refl
@@ -139,7 +139,7 @@ absent_bytes (suc n) = rw (absent_bytes n, suc-mul n 8, add_comm (n * cell_width
 
 -- of an end in the first state, whatever comes to it
 pub first_left : (g : List Instruction) (capacity : ℕ) (e : End Refusal Tag ℤ) (inputs ledger cells : List ℕ) → e.state ≡ first_state inputs (length cells / cell_width) → Bytes inputs
-    → length inputs % token_width ≡ 0 → length cells % cell_width ≡ 0 → check_inputs g capacity inputs ≡ Passed
+    → length inputs % token_width ≡ 0 → length cells % cell_width ≡ 0 → check_inputs g capacity inputs ≡ Ok tt
     → (ledger_after (ran_to e) ledger ≡ inputs ++ drop (length inputs) ledger) × (cells_after (ran_to e) cells ≡ replicate (length cells) 0)
 unfolding ledger_after cells_after first_state check_inputs
 first_left g capacity e inputs ledger cells state b wi wc passed =
@@ -161,7 +161,7 @@ first_left g capacity e inputs ledger cells state b wi wc passed =
     )
 
 -- before the first firing the ledger has the inputs' bytes and then what it was lent with, and every byte of the cells is 0
-accepted_first : (graph arrays inputs picks : List ℕ) (ledger cells : List ℕ) → Bytes inputs → check graph arrays inputs picks (length ledger) (length cells) ≡ Passed
+accepted_first : (graph arrays inputs picks : List ℕ) (ledger cells : List ℕ) → Bytes inputs → check graph arrays inputs picks (length ledger) (length cells) ≡ Ok tt
     → (ledger_after (result graph arrays inputs picks 0 (length ledger) (length cells)) ledger ≡ inputs ++ drop (length inputs) ledger)
     × (cells_after (result graph arrays inputs picks 0 (length ledger) (length cells)) cells ≡ replicate (length cells) 0)
 unfolding result unless_failed check

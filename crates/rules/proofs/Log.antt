@@ -1,5 +1,6 @@
 -- R-7: what a log's records name (`names_back`), that a run that writes a log is the run (`logged_runs`), that a log has room in what is lent (`log_fits`), and that the logs of two runs to an end hold the same records,
 -- each once (`logs_agree_lem`). Assumes nothing.
+use Rattle.std.proofs.Common.{Ok, Err}
 use Prim.Native.Nat.{ℕ, ◌+◌, ◌-◌, ◌*◌, ◌/◌, ◌%◌, ◌≤◌}
 use mathlib.Core.Path.{◌≡◌, refl, ap, ◌∙◌}
 use mathlib.Core.Bool.{Bool, true, false, ◌||◌}
@@ -28,9 +29,7 @@ use Rattle.machine.proofs.Replay.{logs_agree}
 use Rattle.machine.specs.Orders.{Quiescent}
 use Rattle.rules.specs.declared.answer.Refusal.{Refusal}
 use Rattle.rules.specs.declared.answer.Refusal.TheVariants.{BadStore}
-use Rattle.rules.specs.declared.answer.Checked.{Checked}
-use Rattle.rules.specs.declared.answer.Checked.TheVariants.{Passed, Failed}
-use Rattle.rules.specs.Check.{◌and_then◌, check_graph, check_stores, check_arrays, check_inputs, check}
+use Rattle.rules.specs.Check.{◌and_then◌, check_graph, check_stores, check_arrays, check_inputs, check, Checked}
 use Rattle.rules.specs.InstructionSet.{machine_of}
 use Rattle.rules.specs.Run.{first_state, picks_of, ran_to, unless_failed, result}
 use Rattle.rules.specs.Orders.{result_outcome}
@@ -64,7 +63,7 @@ names_back τs f =
 
 -- ---- a log that passed
 
-pub log_stores : (inputs picks ledger cells budget lent : ℕ) → check_log_stores inputs picks ledger cells budget lent ≡ Passed
+pub log_stores : (inputs picks ledger cells budget lent : ℕ) → check_log_stores inputs picks ledger cells budget lent ≡ Ok tt
     → Whole inputs picks ledger cells × ((leb budget (lent / log_width) || leb most_tokens (lent / log_width)) ≡ true)
 unfolding check_log_stores
 log_stores inputs picks ledger cells budget lent e =
@@ -77,7 +76,7 @@ pub record LogPassed (graph arrays inputs picks : List ℕ) (budget ledger cells
   pub room : (leb budget (lent / log_width) || leb most_tokens (lent / log_width)) ≡ true
   pub start : Accepted graph inputs (capacity_of ledger)
 
-pub log_passed : (graph arrays inputs picks : List ℕ) (budget ledger cells lent : ℕ) → check_logged graph arrays inputs picks budget ledger cells lent ≡ Passed → LogPassed graph arrays inputs picks budget ledger cells lent
+pub log_passed : (graph arrays inputs picks : List ℕ) (budget ledger cells lent : ℕ) → check_logged graph arrays inputs picks budget ledger cells lent ≡ Ok tt → LogPassed graph arrays inputs picks budget ledger cells lent
 unfolding check_logged
 log_passed graph arrays inputs picks budget ledger cells lent e =
     let (c, (named, a)) = accepted graph inputs (capacity_of ledger) (check_log_stores (length inputs) (length picks) ledger cells budget lent) (check_arrays (graph_of graph) (cells / cell_width) arrays) e in
@@ -99,8 +98,8 @@ unfolding logged log_unless_failed
 log_fits graph arrays inputs picks budget ledger cells lent = go (check_logged graph arrays inputs picks budget ledger cells lent) refl
   where
     go : (c : Checked) → check_logged graph arrays inputs picks budget ledger cells lent ≡ c → length (logged graph arrays inputs picks budget ledger cells lent).log * log_width ≤ lent
-    go (Failed r p) e = rw e (omega arith)
-    go Passed e =
+    go (Err fault) e = rw e (omega arith)
+    go (Ok _) e =
         let h = log_passed graph arrays inputs picks budget ledger cells lent e in
         let M = machine_of (graph_of graph) (arrays_of arrays) (capacity_of ledger) (cells / cell_width) in
         let s = first_state inputs (cells / cell_width) in
@@ -121,24 +120,24 @@ logged_runs graph arrays inputs picks budget ledger cells lent enough = rw enoug
     e : End Refusal Tag ℤ
     e = run M budget (picks_of picks) (first_state inputs (cells / cell_width))
 
-    go : (g s i : Checked) → (log_unless_failed (g and_then (s and_then Passed) and_then i) e (log_of M (by_picks M) budget (picks_of picks) (first_state inputs (cells / cell_width)))).result
+    go : (g s i : Checked) → (log_unless_failed (g and_then (s and_then Ok tt) and_then i) e (log_of M (by_picks M) budget (picks_of picks) (first_state inputs (cells / cell_width)))).result
         ≡ unless_failed (g and_then s and_then i) (ran_to e)
-    go (Failed r p) s i = refl
-    go Passed (Failed r p) i = refl
-    go Passed Passed (Failed r p) = refl
-    go Passed Passed Passed = refl
+    go (Err fault) s i = refl
+    go (Ok _) (Err fault) i = refl
+    go (Ok _) (Ok _) (Err fault) = refl
+    go (Ok _) (Ok _) (Ok _) = refl
 
 -- ---- two logs
 
 module _ (graph arrays inputs picks : List ℕ) (budget ledger cells lent : ℕ) where
   -- a run that completes or hangs was not refused at once
-  rests_passed : Quiescent (result_outcome (logged graph arrays inputs picks budget ledger cells lent).result) → check_logged graph arrays inputs picks budget ledger cells lent ≡ Passed
+  rests_passed : Quiescent (result_outcome (logged graph arrays inputs picks budget ledger cells lent).result) → check_logged graph arrays inputs picks budget ledger cells lent ≡ Ok tt
   unfolding logged log_unless_failed
   rests_passed q = go (check_logged graph arrays inputs picks budget ledger cells lent) refl
     where
-      go : (c : Checked) → check_logged graph arrays inputs picks budget ledger cells lent ≡ c → c ≡ Passed
-      go Passed e = refl
-      go (Failed r p) e = absurd (rw e at q)
+      go : (c : Checked) → check_logged graph arrays inputs picks budget ledger cells lent ≡ c → c ≡ Ok tt
+      go (Ok _) e = refl
+      go (Err fault) e = absurd (rw e at q)
 
 pub logs_agree_lem : LogsAgreeOfResults
 unfolding logged log_unless_failed

@@ -1,5 +1,6 @@
 -- R-7: a run that writes a log keeps the promise of a run, if the log suffices (`logged_runs_on`), and is else refused before any firing (`logged_else`); one that is
 -- refused in a firing has tokens (`refused_holds`). Assumes nothing.
+use Rattle.std.proofs.Common.{Ok, Err}
 use Prim.Native.Nat.{ℕ, ◌/◌, ◌<◌}
 use mathlib.Core.Path.{◌≡◌, refl, ap, subst, sym, ◌∙◌}
 use mathlib.Core.Bool.{false, true}
@@ -21,10 +22,8 @@ use Rattle.machine.proofs.Orders.{by_picks_lawful}
 use Rattle.rules.specs.declared.answer.Answer.{Answer}
 use Rattle.rules.specs.declared.answer.Refusal.{Refusal}
 use Rattle.rules.specs.declared.answer.Refusal.TheVariants.{BadStore}
-use Rattle.rules.specs.declared.answer.Checked.{Checked}
-use Rattle.rules.specs.declared.answer.Checked.TheVariants.{Passed, Failed}
 use Rattle.rules.specs.Answer.{values_of}
-use Rattle.rules.specs.Check.{◌and_then◌, check_graph, check_stores, check_arrays, check_inputs}
+use Rattle.rules.specs.Check.{◌and_then◌, check_graph, check_stores, check_arrays, check_inputs, Checked, fault_at}
 use Rattle.rules.specs.InstructionSet.{machine_of}
 use Rattle.rules.specs.Run.{first_state, picks_of, Result, answer, ledger_after, cells_after}
 use Rattle.rules.specs.Log.{log_suffices, check_log_stores, check_logged, log_unless_failed, logged, InFiring}
@@ -64,10 +63,10 @@ too_short graph arrays inputs picks budget ledger cells lent e =
     rw e (go (check_graph graph) (check_stores (length inputs) (length picks) ledger cells)
     (check_arrays (graph_of graph) (cells / cell_width) arrays and_then check_inputs (graph_of graph) (capacity_of ledger) inputs) _ _)
   where
-    go : (g s i : Checked) (d : End Refusal Tag ℤ) (τs : List Tag) → AtOnce (answer (log_unless_failed (g and_then (s and_then Failed BadStore 0) and_then i) d τs).result)
-    go (Failed r p) s i d τs = (tt, refl, refl)
-    go Passed (Failed r p) i d τs = (tt, refl, refl)
-    go Passed Passed i d τs = (tt, refl, refl)
+    go : (g s i : Checked) (d : End Refusal Tag ℤ) (τs : List Tag) → AtOnce (answer (log_unless_failed (g and_then (s and_then Err (fault_at BadStore 0)) and_then i) d τs).result)
+    go (Err fault) s i d τs = (tt, refl, refl)
+    go (Ok _) (Err fault) i d τs = (tt, refl, refl)
+    go (Ok _) (Ok _) i d τs = (tt, refl, refl)
 
 pub logged_else : LoggedElse
 logged_else graph arrays inputs l x h e =
@@ -96,5 +95,5 @@ refused_holds graph arrays inputs picks budget ledger cells lent = go (check_log
     e = run M budget (picks_of picks) s
 
     go : (c : Checked) → InFiring (log_unless_failed c e (log_of M (by_picks M) budget (picks_of picks) s)).result → 0 < (answer (log_unless_failed c e (log_of M (by_picks M) budget (picks_of picks) s)).result).tokens
-    go (Failed r p) h = absurd h
-    go Passed h = tokens_there M e.outcome budget _ e.state (ran M (by_picks M) (by_picks_lawful M) budget (picks_of picks) 0 s).says h
+    go (Err fault) h = absurd h
+    go (Ok _) h = tokens_there M e.outcome budget _ e.state (ran M (by_picks M) (by_picks_lawful M) budget (picks_of picks) 0 s).says h

@@ -9,6 +9,7 @@ use borrow.Author.Tests.{eqb-true, le-leb}
 use lib.ListN.{length, length-map}
 use lib.Dec.{eqb, ltb}
 use lib.IntN.{ℤ, pos, negsuc}
+use Rattle.std.specs.Prelude.{Option, None, Some}
 use Rattle.record.specs.declared.tag.Tag.{Tag}
 use Rattle.record.specs.declared.array.NamedArray.{NamedArray}
 use Rattle.record.specs.declared.instruction.Destination.{Destination}
@@ -16,8 +17,6 @@ use Rattle.record.specs.declared.instruction.Instruction.{Instruction}
 use Rattle.record.specs.declared.operation.Operation.{Operation}
 use Rattle.record.specs.declared.operation.Operation.TheVariants as Operations
 use Rattle.record.specs.GraphRecords.{in_use, destinations, row_of, operation_of}
-use Rattle.arithmetic.specs.declared.Computed.{Computed}
-use Rattle.arithmetic.specs.declared.Computed.TheVariants.{Value, OutOfRange}
 use Rattle.arithmetic.specs.Arithmetic.{compute_of}
 use Rattle.machine.specs.Machine.{Key, refuse, read, write, Machine}
 use Rattle.machine.specs.Orders.{effect_keys}
@@ -52,10 +51,10 @@ module _ (g : List Instruction) (table : List NamedArray) (capacity cells : ℕ)
   abbrev M : Machine
   M = machine_of g table capacity cells
 
-  keys_computed : (c : Computed) (keys : List (Key Tag)) → Done M (send_computed c keys) → effect_keys M (send_computed c keys) ≡ keys
+  keys_computed : (c : Option ℤ) (keys : List (Key Tag)) → Done M (send_computed c keys) → effect_keys M (send_computed c keys) ≡ keys
   unfolding send_computed
-  keys_computed (Value v) keys d = refl
-  keys_computed OutOfRange keys d = absurd d
+  keys_computed (Some v) keys d = refl
+  keys_computed None keys d = absurd d
 
   keys_cell : (a : ℤ) (f : ℕ → EffectHere) (keys : List (Key Tag)) → ((c : ℕ) → effect_keys M (f c) ≡ keys) → Done M (on_cell cells a f) → effect_keys M (on_cell cells a f) ≡ keys
   unfolding on_cell

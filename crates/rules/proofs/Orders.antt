@@ -1,5 +1,6 @@
 -- Demand 3 over the rules, proved: the checks do not look at the picks but for their length, and from inputs that passed the machine's theorem of any
 -- two orders holds. Assumes nothing.
+use Rattle.std.proofs.Common.{Ok, Err}
 use Prim.Native.Nat.{ℕ, ◌/◌, ◌%◌, ◌≤◌}
 use mathlib.Core.Path.{◌≡◌, refl, sym, ap, ◌∙◌}
 use mathlib.Core.Bool.{Bool, true, false}
@@ -25,9 +26,7 @@ use Rattle.machine.proofs.Orders.{orders, never_spent, refuses}
 use Rattle.machine.proofs.Reached.{reached_good, reached_picks}
 use Rattle.rules.specs.declared.answer.Refusal.{Refusal}
 use Rattle.rules.specs.declared.answer.Refusal.TheVariants.{BadStore}
-use Rattle.rules.specs.declared.answer.Checked.{Checked}
-use Rattle.rules.specs.declared.answer.Checked.TheVariants.{Passed, Failed}
-use Rattle.rules.specs.Check.{check_graph, check_stores, check_arrays, check, most_cells}
+use Rattle.rules.specs.Check.{check_graph, check_stores, check_arrays, check, most_cells, Checked, fault_at}
 use Rattle.rules.specs.InstructionSet.{machine_of}
 use Rattle.rules.specs.Run.{token_record, cell_record, first_state, picks_of, Result, refused_at_once, ran_to, unless_failed, result, answer}
 use Rattle.rules.specs.Orders.{EachOnce, AlikeResults, ResultsAgree, Allowed, AnyTwoOrdersOfResults}
@@ -121,10 +120,10 @@ module _ (graph arrays inputs picks picks' : List ℕ) (ledger cells : ℕ) (a :
 
   unfolded : (c : Checked) → check graph arrays inputs picks ledger cells ≡ c → ResultsAgree (result graph arrays inputs picks 2048 ledger cells) (result graph arrays inputs picks' 2048 ledger cells)
   unfolding result unless_failed check
-  unfolded (Failed r p) e =
+  unfolded (Err fault) e =
       let e' = sym same_check ∙ e in
       rw (e, e') (record { completes = (λ h. h, λ h. h); hangs = (λ h. h, λ h. h); alike = λ h. absurd h; refused = (λ h. h, λ h. h); never_spent = λ h. h })
-  unfolded Passed e =
+  unfolded (Ok _) e =
       let e' = sym same_check ∙ e in
       let few = (whole_bytes token_width most_tokens ledger a.allowed_ledger).1 in
       rw (e, e') (agree graph inputs (arrays_of arrays) (capacity_of ledger) (cells / cell_width) few (accepted graph inputs (capacity_of ledger) (check_stores (length inputs) (length picks) ledger cells) (check_arrays (graph_of graph) (cells / cell_width) arrays) e).1.1 (picks_of picks) (picks_of picks'))
@@ -144,11 +143,11 @@ pub both_refused_lem : {x y : Result} (q r : Refusal) (m n : ℕ) → x ≡ refu
 both_refused_lem q r m n e f = rw (e, f) (record { completes = (λ h. h, λ h. h); hangs = (λ h. h, λ h. h); alike = λ h. absurd h; refused = (λ h. h, λ h. h); never_spent = λ h. h })
 
 -- a graph that fails its check is refused whatever else is lent, and so are inputs that are not whole records
-graph_refused : (graph arrays inputs picks : List ℕ) (ledger cells : ℕ) (r : Refusal) (p : ℕ) → check_graph graph ≡ Failed r p → result graph arrays inputs picks 2048 ledger cells ≡ refused_at_once r p
+graph_refused : (graph arrays inputs picks : List ℕ) (ledger cells : ℕ) (r : Refusal) (p : ℕ) → check_graph graph ≡ Err (fault_at r p) → result graph arrays inputs picks 2048 ledger cells ≡ refused_at_once r p
 unfolding result check unless_failed
 graph_refused graph arrays inputs picks ledger cells r p e = rw e
 
-inputs_refused : (graph arrays inputs picks : List ℕ) (ledger cells : ℕ) → check_graph graph ≡ Passed → whole token_width most_tokens (length inputs) ≡ false → result graph arrays inputs picks 2048 ledger cells ≡ refused_at_once BadStore 0
+inputs_refused : (graph arrays inputs picks : List ℕ) (ledger cells : ℕ) → check_graph graph ≡ Ok tt → whole token_width most_tokens (length inputs) ≡ false → result graph arrays inputs picks 2048 ledger cells ≡ refused_at_once BadStore 0
 unfolding result check check_stores unless_failed
 inputs_refused graph arrays inputs picks ledger cells e w = rw (e, w)
 
@@ -157,6 +156,6 @@ any_two_orders graph arrays inputs picks picks' ledger ledger' cells cells' a b 
   where
     go : (x : Checked) → check_graph graph ≡ x → (w : Bool) → whole token_width most_tokens (length inputs) ≡ w
         → ResultsAgree (result graph arrays inputs picks 2048 ledger cells) (result graph arrays inputs picks' 2048 ledger' cells')
-    go (Failed r p) e w f = both_refused_lem r r p p (graph_refused graph arrays inputs picks ledger cells r p e) (graph_refused graph arrays inputs picks' ledger' cells' r p e)
-    go Passed e false f = both_refused_lem BadStore BadStore 0 0 (inputs_refused graph arrays inputs picks ledger cells e f) (inputs_refused graph arrays inputs picks' ledger' cells' e f)
-    go Passed e true f = allowed_orders graph arrays inputs picks picks' ledger ledger' cells cells' (a e f) (b e f) c d
+    go (Err fault) e w f = both_refused_lem fault.refusal fault.refusal fault.place fault.place (graph_refused graph arrays inputs picks ledger cells fault.refusal fault.place e) (graph_refused graph arrays inputs picks' ledger' cells' fault.refusal fault.place e)
+    go (Ok _) e false f = both_refused_lem BadStore BadStore 0 0 (inputs_refused graph arrays inputs picks ledger cells e f) (inputs_refused graph arrays inputs picks' ledger' cells' e f)
+    go (Ok _) e true f = allowed_orders graph arrays inputs picks picks' ledger ledger' cells cells' (a e f) (b e f) c d

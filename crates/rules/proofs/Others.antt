@@ -1,5 +1,6 @@
 -- What a replay and a profile leave that have fired nothing: the inputs in the ledger and all cells absent (`others_start`); and what 20 leaves: what a replay of the
 -- records before it leaves (`not_enabled_stops`). Assumes nothing.
+use Rattle.std.proofs.Common.{Ok, Err}
 use Prim.Native.Nat.{ℕ, suc, ◌+◌, ◌-◌, ◌*◌, ◌/◌, ◌≤◌}
 use mathlib.Core.Path.{◌≡◌, refl, sym, ap, ◌∙◌}
 use mathlib.Core.Option.{Option, some}
@@ -35,10 +36,8 @@ use Rattle.rules.specs.declared.answer.Refusal.{Refusal}
 use Rattle.rules.specs.declared.answer.Refusal.TheVariants.{ProfileFull, NotEnabled}
 use Rattle.rules.specs.declared.answer.Outcome as AnswerOutcome
 use Rattle.rules.specs.declared.answer.Outcome.TheVariants as Outcomes
-use Rattle.rules.specs.declared.answer.Checked.{Checked}
-use Rattle.rules.specs.declared.answer.Checked.TheVariants.{Passed, Failed}
 use Rattle.rules.specs.Answer.{number_of, word_of, place_in}
-use Rattle.rules.specs.Check.{check_stores, check_arrays, check, most_cells}
+use Rattle.rules.specs.Check.{check_stores, check_arrays, check, most_cells, Checked}
 use Rattle.rules.specs.InstructionSet.{machine_of}
 use Rattle.rules.specs.Run.{first_state, ran_to, outcome_of, unless_failed, answer, ledger_after, cells_after}
 use Rattle.rules.specs.Log.{names_in, replayed}
@@ -67,7 +66,7 @@ module _ (graph arrays inputs ledger cells : List ℕ) (bytes : Bytes inputs) (w
       (whole_bytes token_width most_tokens (length inputs) w.whole_inputs).0 (whole_bytes cell_width most_cells (length cells) w.whole_cells).0 a.inputs_passed in
       record { ledger_left = z.0; cells_left = z.1 }
 
-replay_starts : (graph arrays inputs log ledger cells : List ℕ) → Bytes inputs → check graph arrays inputs [] (length ledger) (length cells) ≡ Passed
+replay_starts : (graph arrays inputs log ledger cells : List ℕ) → Bytes inputs → check graph arrays inputs [] (length ledger) (length cells) ≡ Ok tt
     → (answer (replayed graph arrays inputs log (length ledger) (length cells))).firings ≡ 0 → InputsWritten (replayed graph arrays inputs log (length ledger) (length cells)) inputs ledger cells
 unfolding replayed unless_failed answer check
 replay_starts graph arrays inputs log ledger cells b passed n =
@@ -77,7 +76,7 @@ replay_starts graph arrays inputs log ledger cells b passed n =
     let h = every_replay M NotEnabled (names_in log) 0 s in
     rw passed (written graph arrays inputs ledger cells b (stores_whole (length inputs) 0 (length ledger) (length cells) stores) a (replay M NotEnabled (names_in log) 0 s) h.done h.logged (rw passed at n))
 
-profile_starts : (graph arrays inputs ledger cells : List ℕ) (lent : ℕ) → Bytes inputs → check_profile graph arrays inputs (length ledger) (length cells) lent ≡ Passed
+profile_starts : (graph arrays inputs ledger cells : List ℕ) (lent : ℕ) → Bytes inputs → check_profile graph arrays inputs (length ledger) (length cells) lent ≡ Ok tt
     → (answer (profiled graph arrays inputs (length ledger) (length cells) lent).result).firings ≡ 0 → InputsWritten (profiled graph arrays inputs (length ledger) (length cells) lent).result inputs ledger cells
 unfolding profiled profile_unless_failed answer
 profile_starts graph arrays inputs ledger cells lent b passed n =
@@ -195,10 +194,10 @@ not_enabled_stops graph arrays inputs log ledger cells place = go (check graph a
   where
     go : (c : Checked) → check graph arrays inputs [] ledger cells ≡ c → (answer (replayed graph arrays inputs log ledger cells)).outcome ≡ Outcomes.Refused NotEnabled place
         → StoppedBefore (replayed graph arrays inputs log ledger cells) (replayed graph arrays inputs (take (place * log_width) log) ledger cells) place
-    go (Failed r n) e h =
-        let z : number_of r ≡ 20 = (not_enabled_word _ place (rw e at h)).0 in
-        let common : Common r = rw e at (check_early graph arrays inputs [] ledger cells) in
+    go (Err fault) e h =
+        let z : number_of fault.refusal ≡ 20 = (not_enabled_word _ place (rw e at h)).0 in
+        let common : Common fault.refusal = rw e at (check_early graph arrays inputs [] ledger cells) in
         absurd (common.not_named_lem z)
-    go Passed e h =
+    go (Ok _) e h =
         let z = stops graph (arrays_of arrays) (capacity_of ledger) (cells / cell_width) (first_state inputs (cells / cell_width)) log place (rw e at h) in
         rw e (record { counted = z.0; ledger_left = λ l. rw z.1; cells_left = λ l. rw z.1 })

@@ -1,4 +1,5 @@
 -- 02, R-13, proved in bytes: a run in parts ends as the uncut run (`cut_runs`, `cut_again`), and what a run leaves is taken (`leaves_taken`) and fits its records (`carried_fits`). Assumes nothing.
+use Rattle.std.proofs.Common.{Ok, Err}
 use Prim.Native.Nat.{ℕ, ◌+◌, ◌*◌, ◌/◌, ◌%◌, ◌≤◌}
 use mathlib.Core.Path.{◌≡◌, refl, sym, ap, ◌∙◌, subst}
 use mathlib.Core.Bool.{true}
@@ -27,9 +28,7 @@ use Rattle.machine.proofs.Cut.{picks_taken}
 use Rattle.machine.proofs.Cut as Cut
 use Rattle.rules.specs.declared.answer.Refusal.{Refusal}
 use Rattle.rules.specs.declared.answer.Refusal.TheVariants.{DamagedState}
-use Rattle.rules.specs.declared.answer.Checked.{Checked}
-use Rattle.rules.specs.declared.answer.Checked.TheVariants.{Passed, Failed}
-use Rattle.rules.specs.Check.{check_graph, check_stores, check_arrays, check, most_cells}
+use Rattle.rules.specs.Check.{check_graph, check_stores, check_arrays, check, most_cells, Checked}
 use Rattle.rules.specs.InstructionSet.{machine_of}
 use Rattle.rules.specs.Run.{token_record, cell_record, first_state, picks_of, Result, refused_at_once, ran_to, unless_failed, result, outcome_of, answer, ledger_after, cells_after}
 use Rattle.rules.specs.Runs.{LeftByRun}
@@ -73,9 +72,9 @@ by_outcome hung f e z y h = h
 by_outcome budget_spent f e z y h = h
 by_outcome (refused r p) f e z y h = refl
 
-module _ (graph : List ℕ) (bytes : Bytes graph) (passed : check_graph graph ≡ Passed) (arrays ledger cells : List ℕ)
+module _ (graph : List ℕ) (bytes : Bytes graph) (passed : check_graph graph ≡ Ok tt) (arrays ledger cells : List ℕ)
     (whole_ledger : whole token_width most_tokens (length ledger) ≡ true) (whole_cells : whole cell_width most_cells (length cells) ≡ true)
-    (named : check_arrays (graph_of graph) (length cells / cell_width) arrays ≡ Passed) where
+    (named : check_arrays (graph_of graph) (length cells / cell_width) arrays ≡ Ok tt) where
   abbrev capacity : ℕ
   capacity = capacity_of (length ledger)
 
@@ -112,7 +111,7 @@ module _ (graph : List ℕ) (bytes : Bytes graph) (passed : check_graph graph �
     pub is_taken_lem : state_taken graph ledger' cells' f (length s.tokens) ≡ true
     is_taken_lem = taken_again graph bytes passed (arrays_of arrays) capacity count few f s h ledger cells room refl refl
 
-    check_passes : (picks : List ℕ) → whole pick_width most_tokens (length picks) ≡ true → check_saved graph arrays picks ledger' cells' f (length s.tokens) ≡ Passed
+    check_passes : (picks : List ℕ) → whole pick_width most_tokens (length picks) ≡ true → check_saved graph arrays picks ledger' cells' f (length s.tokens) ≡ Ok tt
     unfolding check_saved check_stores
     check_passes picks w = rw (passed, w, ledger_size s ledger cells room, cells_size s ledger cells room, whole_ledger, whole_cells, named, is_taken_lem)
 
@@ -198,9 +197,9 @@ module _ (graph arrays inputs ledger cells : List ℕ) (graph_bytes : Bytes grap
   abbrev stores : Checked
   stores = check_stores (length inputs) (length picks) (length ledger) (length cells)
 
-  begun : check graph arrays inputs picks (length ledger) (length cells) ≡ Passed
-      → (passed : check_graph graph ≡ Passed) × (wl : whole token_width most_tokens (length ledger) ≡ true) × (wc : whole cell_width most_cells (length cells) ≡ true)
-      × (named : check_arrays (graph_of graph) (length cells / cell_width) arrays ≡ Passed) × Resumable graph graph_bytes passed (arrays_of arrays) (capacity_of (length ledger)) (length cells / cell_width) 0 (first_state inputs (length cells / cell_width))
+  begun : check graph arrays inputs picks (length ledger) (length cells) ≡ Ok tt
+      → (passed : check_graph graph ≡ Ok tt) × (wl : whole token_width most_tokens (length ledger) ≡ true) × (wc : whole cell_width most_cells (length cells) ≡ true)
+      × (named : check_arrays (graph_of graph) (length cells / cell_width) arrays ≡ Ok tt) × Resumable graph graph_bytes passed (arrays_of arrays) (capacity_of (length ledger)) (length cells / cell_width) 0 (first_state inputs (length cells / cell_width))
   unfolding check
   begun e =
       let (s, (named, a)) = accepted graph inputs (capacity_of (length ledger)) stores (check_arrays (graph_of graph) (length cells / cell_width) arrays) e in
@@ -223,17 +222,17 @@ cut_runs graph arrays inputs picks ledger cells a later graph_bytes input_bytes 
     go : (c : Checked) → check graph arrays inputs picks (length ledger) (length cells) ≡ c
         → later_parts graph arrays later (drop (a * pick_width) picks) (left_by (result graph arrays inputs (take (a * pick_width) picks) a (length ledger) (length cells)) ledger cells)
         ≡ left_by (result graph arrays inputs picks (a + sum later) (length ledger) (length cells)) ledger cells
-    go (Failed r p) e = rw (same, e) (ends_there graph arrays later (drop (a * pick_width) picks) r p ledger cells)
-    go Passed e =
+    go (Err fault) e = rw (same, e) (ends_there graph arrays later (drop (a * pick_width) picks) fault.refusal fault.place ledger cells)
+    go (Ok _) e =
         let (passed, wl, wc, named, h) = begun graph arrays inputs ledger cells graph_bytes input_bytes picks e in
         rw (same, e) (from_here graph graph_bytes passed arrays ledger cells wl wc named later a picks w 0 (first_state inputs (length cells / cell_width)) h)
 
 -- ---- from a saved state
 
 module _ (graph arrays ledger cells : List ℕ) (graph_bytes : Bytes graph) (ledger_bytes : Bytes ledger) (cell_bytes : Bytes cells) (picks : List ℕ) (firings n : ℕ) where
-  goes : check_saved graph arrays picks ledger cells firings n ≡ Passed
-      → (passed : check_graph graph ≡ Passed) × (wl : whole token_width most_tokens (length ledger) ≡ true) × (wc : whole cell_width most_cells (length cells) ≡ true)
-      × (named : check_arrays (graph_of graph) (length cells / cell_width) arrays ≡ Passed) × Resumable graph graph_bytes passed (arrays_of arrays) (capacity_of (length ledger)) (length cells / cell_width) firings (state_saved ledger cells n)
+  goes : check_saved graph arrays picks ledger cells firings n ≡ Ok tt
+      → (passed : check_graph graph ≡ Ok tt) × (wl : whole token_width most_tokens (length ledger) ≡ true) × (wc : whole cell_width most_cells (length cells) ≡ true)
+      × (named : check_arrays (graph_of graph) (length cells / cell_width) arrays ≡ Ok tt) × Resumable graph graph_bytes passed (arrays_of arrays) (capacity_of (length ledger)) (length cells / cell_width) firings (state_saved ledger cells n)
   unfolding check_saved
   goes e =
       let (passed, later) = and_then_passed (check_graph graph) _ e in
@@ -257,8 +256,8 @@ cut_again graph arrays picks ledger cells firings n a later graph_bytes ledger_b
     go : (c : Checked) → check_saved graph arrays picks ledger cells firings n ≡ c
         → later_parts graph arrays later (drop (a * pick_width) picks) (left_by (carried graph arrays (take (a * pick_width) picks) a ledger cells firings n) ledger cells)
         ≡ left_by (carried graph arrays picks (a + sum later) ledger cells firings n) ledger cells
-    go (Failed r p) e = rw (same, e) (ends_there graph arrays later (drop (a * pick_width) picks) r p ledger cells)
-    go Passed e =
+    go (Err fault) e = rw (same, e) (ends_there graph arrays later (drop (a * pick_width) picks) fault.refusal fault.place ledger cells)
+    go (Ok _) e =
         let (passed, wl, wc, named, h) = goes graph arrays ledger cells graph_bytes ledger_bytes cell_bytes picks firings n e in
         rw (same, e) (from_here graph graph_bytes passed arrays ledger cells wl wc named later a picks w firings (state_saved ledger cells n) h)
 

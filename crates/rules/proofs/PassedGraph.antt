@@ -1,4 +1,5 @@
 -- What holds of a graph that passed its check, record by record; and what the table of operations says of the operations that need it. Assumes nothing.
+use Rattle.std.proofs.Common.{Ok}
 use Prim.Native.Nat.{ℕ, ◌/◌, ◌%◌, ◌≤◌, ◌<◌}
 use mathlib.Core.Path.{◌≡◌, refl}
 use mathlib.Core.Bool.{Bool, true, false, cond, ◌&&◌}
@@ -16,7 +17,6 @@ use Rattle.record.specs.GraphRecords.{Row, no_row, table, row_with, row_of, oper
 use Rattle.record.specs.GraphRecords as Graph
 use Rattle.record.specs.Widths.{graph_width}
 use Rattle.rules.specs.declared.answer.Refusal.TheVariants.{GraphLength, UnknownOperation, FanOut, BadArc, BadSite}
-use Rattle.rules.specs.declared.answer.Checked.TheVariants.{Passed}
 use Rattle.rules.specs.Check.{demand, all, any, other_return, in_turn, instruction_at, operands_at, fan_out_allowed, unused_are_zero, good_arc, within, good_site, check_record, check_graph}
 use Rattle.rules.proofs.Passed.{both, demand_passed, and_then_passed, turn_passed, get_d_past}
 
@@ -29,7 +29,7 @@ pub record Good (g : List Instruction) (i : ℕ) (r : Instruction) : Type 0 wher
   pub arcs : all (good_arc g) (destinations r) ≡ true
   pub site : good_site (take i g) r ≡ true
 
-of_record : (g : List Instruction) (i : ℕ) (r : Instruction) → check_record g i r ≡ Passed → Good g i r
+of_record : (g : List Instruction) (i : ℕ) (r : Instruction) → check_record g i r ≡ Ok tt → Good g i r
 unfolding check_record
 of_record g i r e =
     let p = and_then_passed (demand (leb 1 (operands_of r.code)) UnknownOperation i) _ e in
@@ -51,8 +51,8 @@ pub past_operands : (g : List Instruction) (i : ℕ) → length g ≤ i → oper
 unfolding operands_at instruction_at Graph.decode_instruction row_of
 past_operands g i h = rw (get_d_past g i (Graph.decode_instruction []) h)
 
-module _ (graph : List ℕ) (passed : check_graph graph ≡ Passed) where
-  parts : (is_graph_length (length graph) ≡ true) × (in_turn (check_record (graph_of graph)) 0 (graph_of graph) ≡ Passed)
+module _ (graph : List ℕ) (passed : check_graph graph ≡ Ok tt) where
+  parts : (is_graph_length (length graph) ≡ true) × (in_turn (check_record (graph_of graph)) 0 (graph_of graph) ≡ Ok tt)
   unfolding check_graph
   parts =
       let p = and_then_passed (demand (is_graph_length (length graph)) GraphLength 0) _ passed in

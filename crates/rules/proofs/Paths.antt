@@ -1,4 +1,5 @@
 -- 02, R-13: the test of a path says that its sites have an ENTER and its levels are unbroken (`path_made_lem`, `path_in_lem`). Assumes nothing.
+use Rattle.std.proofs.Common.{Ok}
 use Prim.Native.Nat.{ℕ, zero, suc, ◌/◌, ◌%◌, ◌<◌, ◌≤◌}
 use mathlib.Core.Path.{◌≡◌, refl, sym, ◌∙◌}
 use mathlib.Core.Bool.{Bool, true, false, cond, ◌||◌}
@@ -9,7 +10,8 @@ use lib.ListN.{length, get_or}
 use lib.Dec.{eqb, leb}
 use lib.IntN.{pos}
 use Rattle.record.specs.declared.tag.Tag.{Tag}
-use Rattle.record.specs.declared.tag.Left.TheVariants.{To, NoCaller}
+use Rattle.record.specs.declared.tag.Caller.{Caller}
+use Rattle.std.specs.Prelude.{Option, Some, None}
 use Rattle.record.specs.declared.instruction.Instruction.{Instruction}
 use Rattle.buffer.specs.Rows.{All}
 use Rattle.record.specs.Paths.{path_number, path_words, is_root}
@@ -21,7 +23,6 @@ use Rattle.record.proofs.Calls.{left_path_lem}
 use Rattle.arithmetic.proofs.Ranged.{eq_z_true}
 use Rattle.arithmetic.specs.Arithmetic.{eq_z}
 use Rattle.machine.proofs.View.{false_true}
-use Rattle.rules.specs.declared.answer.Checked.TheVariants.{Passed}
 use Rattle.rules.specs.Check.{any, instruction_at, within, enters_site, check_graph}
 use Rattle.rules.specs.Callers.{HasEnter, CallIn, PathIn}
 use Rattle.rules.specs.Saved.{path_made}
@@ -39,7 +40,7 @@ any_index f d (x ∷ xs) e = go (f x) refl e (λ h. any_index f d xs h)
 
 -- ---- LEAVE finds the newest level of a path
 
-no_caller : (τ : Tag) → path_number τ.path ≡ 0 → leave_of τ ≡ NoCaller
+no_caller : (τ : Tag) → path_number τ.path ≡ 0 → leave_of τ ≡ None
 unfolding leave_of is_root
 no_caller τ e = rw e
 
@@ -47,13 +48,13 @@ no_caller τ e = rw e
 abbrev caller_of : (path instruction : ℕ) → Tag
 caller_of path instruction = record { path = path_words (path / 65536); iteration = path % 256; instruction = instruction }
 
-a_caller : (τ : Tag) → ¬ (path_number τ.path ≡ 0) → leave_of τ ≡ To (path_number τ.path / 256 % 256) (caller_of (path_number τ.path) τ.instruction)
+a_caller : (τ : Tag) → ¬ (path_number τ.path ≡ 0) → leave_of τ ≡ Some (record { site = path_number τ.path / 256 % 256; tag = caller_of (path_number τ.path) τ.instruction })
 unfolding leave_of is_root
 a_caller τ n = go (eqb (path_number τ.path) 0) refl
   where
     go : (b : Bool) → eqb (path_number τ.path) 0 ≡ b
-        → cond b NoCaller (To (path_number τ.path / 256 % 256) (caller_of (path_number τ.path) τ.instruction))
-        ≡ To (path_number τ.path / 256 % 256) (caller_of (path_number τ.path) τ.instruction)
+        → cond {A = Option Caller} b None (Some (record { site = path_number τ.path / 256 % 256; tag = caller_of (path_number τ.path) τ.instruction }))
+        ≡ Some (record { site = path_number τ.path / 256 % 256; tag = caller_of (path_number τ.path) τ.instruction })
     go true e = absurd (n (eqb-true _ _ e))
     go false e = refl
 
@@ -73,7 +74,7 @@ module _ (g : List Instruction) where
 
 -- ---- and what passes is a path of calls, where the graph passed its check
 
-module _ (graph : List ℕ) (passed : check_graph graph ≡ Passed) where
+module _ (graph : List ℕ) (passed : check_graph graph ≡ Ok tt) where
   abbrev g : List Instruction
   g = graph_of graph
 

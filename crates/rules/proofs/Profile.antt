@@ -1,5 +1,6 @@
 -- R-1 over the rules: a profile that is not refused ends as every order does (`as_every_order`); its records have room in what is lent
 -- (`profile_fits`); and what a profile that passes its checks has (`passes`, `wholes`). Assumes nothing.
+use Rattle.std.proofs.Common.{Ok, Err}
 use Prim.Native.Nat.{ℕ, ◌*◌, ◌/◌, ◌%◌, ◌≤◌}
 use mathlib.Core.Path.{◌≡◌, refl, ap, ◌∙◌}
 use mathlib.Core.List.{List}
@@ -22,9 +23,7 @@ use Rattle.machine.proofs.Sequences.{fires_good}
 use Rattle.machine.proofs.Orders.{by_picks_lawful}
 use Rattle.machine.proofs.Steps.{every_profile, profile_ends}
 use Rattle.rules.specs.declared.answer.Refusal.TheVariants.{BadStore, ProfileFull}
-use Rattle.rules.specs.declared.answer.Checked.{Checked}
-use Rattle.rules.specs.declared.answer.Checked.TheVariants.{Passed, Failed}
-use Rattle.rules.specs.Check.{demand, check_stores, check_arrays, check, most_cells}
+use Rattle.rules.specs.Check.{demand, check_stores, check_arrays, check, most_cells, Checked}
 use Rattle.rules.specs.InstructionSet.{machine_of}
 use Rattle.rules.specs.Run.{first_state, picks_of, ran_to, outcome_of, unless_failed, result, answer}
 use Rattle.rules.specs.Orders.{result_outcome, Allowed}
@@ -67,22 +66,22 @@ module _ (graph inputs : List ℕ) (table : List NamedArray) (capacity cells : �
 -- ---- over bytes
 
 module _ (graph arrays inputs : List ℕ) (ledger cells lent : ℕ) where
-  pub passes : ¬ (Refused (result_outcome (profiled graph arrays inputs ledger cells lent).result)) → check_profile graph arrays inputs ledger cells lent ≡ Passed
+  pub passes : ¬ (Refused (result_outcome (profiled graph arrays inputs ledger cells lent).result)) → check_profile graph arrays inputs ledger cells lent ≡ Ok tt
   unfolding profiled profile_unless_failed
   passes n = go (check_profile graph arrays inputs ledger cells lent) refl
     where
-      go : (c : Checked) → check_profile graph arrays inputs ledger cells lent ≡ c → c ≡ Passed
-      go Passed e = refl
-      go (Failed r p) e = absurd (n (rw e tt))
+      go : (c : Checked) → check_profile graph arrays inputs ledger cells lent ≡ c → c ≡ Ok tt
+      go (Ok _) e = refl
+      go (Err fault) e = absurd (n (rw e tt))
 
-  pub wholes : check_profile graph arrays inputs ledger cells lent ≡ Passed → Whole (length inputs) 0 ledger cells × ((check_arrays (graph_of graph) (cells / cell_width) arrays ≡ Passed) × Accepted graph inputs (capacity_of ledger))
+  pub wholes : check_profile graph arrays inputs ledger cells lent ≡ Ok tt → Whole (length inputs) 0 ledger cells × ((check_arrays (graph_of graph) (cells / cell_width) arrays ≡ Ok tt) × Accepted graph inputs (capacity_of ledger))
   unfolding check_profile check_profile_stores
   wholes e =
       let (stores, (named, a)) = accepted graph inputs (capacity_of ledger) (check_profile_stores (length inputs) ledger cells lent) (check_arrays (graph_of graph) (cells / cell_width) arrays) e in
       (stores_whole (length inputs) 0 ledger cells (and_then_passed (check_stores (length inputs) 0 ledger cells) (demand (eqb (lent % step_width) 0) BadStore 0) stores).0, (named, a))
 
   -- what a profile accepts, a run accepts
-  run_accepts : (picks : List ℕ) → Allowed picks ledger cells → check_arrays (graph_of graph) (cells / cell_width) arrays ≡ Passed → Accepted graph inputs (capacity_of ledger) → Whole (length inputs) 0 ledger cells → check graph arrays inputs picks ledger cells ≡ Passed
+  run_accepts : (picks : List ℕ) → Allowed picks ledger cells → check_arrays (graph_of graph) (cells / cell_width) arrays ≡ Ok tt → Accepted graph inputs (capacity_of ledger) → Whole (length inputs) 0 ledger cells → check graph arrays inputs picks ledger cells ≡ Ok tt
   unfolding check check_stores
   run_accepts picks allowed named a w = rw (a.graph_passed, w.whole_inputs, allowed.allowed_picks, w.whole_ledger, w.whole_cells, named) a.inputs_passed
 
@@ -106,8 +105,8 @@ unfolding profiled profile_unless_failed
 profile_fits graph arrays inputs ledger cells lent = go (check_profile graph arrays inputs ledger cells lent) refl
   where
     go : (c : Checked) → check_profile graph arrays inputs ledger cells lent ≡ c → length (profiled graph arrays inputs ledger cells lent).records * step_width ≤ lent
-    go (Failed r p) e = rw e (omega arith)
-    go Passed e =
+    go (Err fault) e = rw e (omega arith)
+    go (Ok _) e =
         let a = (wholes graph arrays inputs ledger cells lent e).1.1 in
         let capacity = capacity_of ledger in
         let p = every_profile (machine_of (graph_of graph) (arrays_of arrays) capacity (cells / cell_width)) (law graph inputs (arrays_of arrays) capacity (cells / cell_width) a) ProfileFull (first_state inputs (cells / cell_width)) (good graph inputs (arrays_of arrays) capacity (cells / cell_width) a) (lent / step_width) 0 in

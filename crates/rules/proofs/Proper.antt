@@ -1,5 +1,6 @@
 -- A run with nothing enabled is completed exactly if every live token is at a result and none is deferred (`completed_exactly`). Every token stands at a port
 -- of an instruction of the graph, so that none but a result waits for no operand. Assumes nothing.
+use Rattle.std.proofs.Common.{Ok}
 use Prim.Native.Nat.{ℕ, suc, ◌/◌, ◌≤◌, ◌<◌}
 use mathlib.Core.Path.{◌≡◌, refl}
 use mathlib.Core.Bool.{Bool, true, false, cond}
@@ -27,7 +28,6 @@ use Rattle.machine.proofs.View.{false_true}
 use Rattle.machine.proofs.Kept.{Each, OfToken, Keeps, reached_keeps}
 use Rattle.machine.proofs.Reached.{reached_picks}
 use Rattle.rules.specs.declared.answer.Refusal.{Refusal}
-use Rattle.rules.specs.declared.answer.Checked.TheVariants.{Passed}
 use Rattle.rules.specs.Check.{all, instruction_at, operands_at, good_arc, check_graph, check_stores, check_arrays, check}
 use Rattle.rules.specs.InstructionSet.{key_under, all_under, is_result, arity_in, machine_of}
 use Rattle.rules.specs.Run.{content_record, token_record, first_state, picks_of, result}
@@ -50,7 +50,7 @@ module _ (g : List Instruction) where
   arcs_in τ [] e = tt
   arcs_in τ (d ∷ ds) e = let p = both (good_arc g d) (all (good_arc g) ds) e in (ltb-true _ _ p.0, arcs_in τ ds p.1)
 
-module _ (graph : List ℕ) (passed : check_graph graph ≡ Passed) (table : List NamedArray) (capacity cells : ℕ) where
+module _ (graph : List ℕ) (passed : check_graph graph ≡ Ok tt) (table : List NamedArray) (capacity cells : ℕ) where
   abbrev g : List Instruction
   g = graph_of graph
 

@@ -5,10 +5,10 @@ use mathlib.Core.Path.{◌≡◌, refl}
 use mathlib.Core.Bool.{Bool, true, false, not, ◌&&◌, cond}
 use mathlib.Core.Logic.{inl, inr}
 use mathlib.Core.List.{List, [], ◌∷◌}
-use mathlib.Core.Option.{Option, none, some}
 use native.Mathlib.Omega.{arith}
 use lib.IntN.{ℤ, pos, nat_abs}
 use lib.Signed.{≤ℤ_refl}
+use Rattle.std.specs.Prelude.{Option, None, Some}
 use Rattle.record.specs.declared.tag.Tag.{Tag}
 use Rattle.record.specs.declared.array.NamedArray.{NamedArray}
 use Rattle.record.specs.declared.instruction.Instruction.{Instruction}
@@ -73,8 +73,8 @@ unfolding send_range send_computed
 computed_related o a b x y keys h k = go (range_of o a b) refl
   where
     go : (q : Option Range) → range_of o a b ≡ q → InRange (send_range q keys) (send_computed (compute_of o x y) keys)
-    go none e = refused_alone (inl refl)
-    go (some r) e = let (v, f, l) = holds_every o a b r e x y h k in rw f (both_send l)
+    go None e = refused_alone (inl refl)
+    go (Some r) e = let (v, f, l) = holds_every o a b r e x y h k in rw f (both_send l)
 
 operation_related : (o : Operation) (g : List Instruction) (table : List NamedArray) (cells : ℕ) (τ : Tag) (r : Instruction) (a b : Range) (x y : ℤ) (keys : List (Key Tag)) → Holds a x → Holds b y
     → InRange (range_effect_of o g table cells τ r a b keys) (effect_of o g table cells τ r x y keys)

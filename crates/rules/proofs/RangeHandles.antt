@@ -1,13 +1,14 @@
 -- 02, R-11: a run over handles goes in step with the range run (`handle_run_lem`): what it leaves, read through its table, is
 -- what the range run leaves (`handles_read`), so that a run by picks is told by handles (`by_handles`). A firing adds no more ranges than it has outputs (`steps_add_few`). Assumes nothing.
+use Rattle.std.proofs.Common.{Ok}
 use Prim.Native.Nat.{ℕ, suc, ◌/◌, ◌<◌, ◌≤◌, zero-le}
 use mathlib.Core.Path.{◌≡◌, refl, sym, ◌∙◌}
 use mathlib.Core.Bool.{Bool, true, false, cond}
 use mathlib.Core.List.{List, [], ◌∷◌, ◌++◌, map, append_assoc}
-use mathlib.Core.Option.{Option, none, some}
 use native.Mathlib.Omega.{arith}
 use lib.ListN.{length, length-append}
 use lib.IntN.{ℤ, pos, nat_abs}
+use Rattle.std.specs.Prelude.{Option, None, Some}
 use Rattle.record.specs.declared.tag.Tag.{Tag}
 use Rattle.record.specs.declared.array.NamedArray.{NamedArray}
 use Rattle.record.specs.declared.instruction.Instruction.{Instruction}
@@ -34,7 +35,6 @@ use Rattle.machine.proofs.InStep.{enabled_same, ending_same}
 use Rattle.machine.proofs.Handles.{stands_on, stands_new, stands_at_lem, state_read, handles_in_step, StepsRelated, SameChooser}
 use Rattle.rules.specs.declared.answer.Refusal.{Refusal}
 use Rattle.rules.specs.declared.answer.Refusal.TheVariants as Refusals
-use Rattle.rules.specs.declared.answer.Checked.TheVariants.{Passed}
 use Rattle.rules.specs.Check.{instruction_at, good_input, check_graph}
 use Rattle.rules.specs.InstructionSet.{EffectHere, key_under, all_under, side_of, on_cell, cell_number, effect_of, effect_in, machine_of}
 use Rattle.rules.specs.Held.{held_in}
@@ -56,8 +56,8 @@ Right t e s = RelatedEffect (StandsAt nat_abs (t ++ s.added)) NoRefusal e s.aske
 
 new_right_lem : (t : List Range) (q : Option Range) (keys : List (Key Tag)) → Right t (send_range q keys) (send_new t q keys)
 unfolding send_range send_new
-new_right_lem t none keys = both_refuse
-new_right_lem t (some r) keys = both_send (stands_new nat_abs t r (pos (length t)) refl)
+new_right_lem t None keys = both_refuse
+new_right_lem t (Some r) keys = both_send (stands_new nat_abs t r (pos (length t)) refl)
 
 module _ (t : List Range) where
   abbrev R : Range → ℤ → Type 0
@@ -93,7 +93,7 @@ module _ (t : List Range) where
   step_right Operations.Copy g table cells τ r x y a b keys h k = both_send (kept x a h)
   step_right Operations.Sink g table cells τ r x y a b keys h k = both_send (kept x a h)
   step_right Operations.Out g table cells τ r x y a b keys h k = both_send (kept x a h)
-  step_right Operations.Const g table cells τ r x y a b keys h k = new_right_lem t (some (single r.constant)) keys
+  step_right Operations.Const g table cells τ r x y a b keys h k = new_right_lem t (Some (single r.constant)) keys
   step_right Operations.Switch g table cells τ r x y a b keys h k = rw (meant y b k) (side_right x y a τ r (kept x a h))
   step_right Operations.Gate g table cells τ r x y a b keys h k = both_send (kept x a h)
   step_right Operations.Next g table cells τ r x y a b keys h k = next_related R NoRefusal (kept x a h) (next_of τ) r
@@ -124,7 +124,7 @@ numbered_related g front n e (l ∷ ls) h =
     let rest = numbered_related g (front ++ range_in l ∷ []) (suc n) (omega (arith, length-append front (range_in l ∷ []))) ls h.1 in
     pair (at_key {x = (decode_range l).content} {y = live (pos n)} (rw (zero_state g l h.0) (both_live (rw shifted at here)))) (rw shifted at rest)
 
-first_handled : (g : List Instruction) (capacity cells : ℕ) (inputs : List ℕ) → check_range_inputs g capacity inputs ≡ Passed
+first_handled : (g : List Instruction) (capacity cells : ℕ) (inputs : List ℕ) → check_range_inputs g capacity inputs ≡ Ok tt
     → RelatedState (StandsAt nat_abs (first_table inputs)) (first_ranges inputs cells) (first_handles inputs cells)
 unfolding first_table first_ranges first_handles
 first_handled g capacity cells inputs e = record {
@@ -136,7 +136,7 @@ first_handled g capacity cells inputs e = record {
 -- the range run of accepted inputs by any chooser, told by handles and the table
 module _ (g : List Instruction) (table : List NamedArray) (capacity cells : ℕ) (c : Chooser (range_machine_of g table capacity cells)) (d : Chooser (machine_of g table capacity cells))
     (same : SameChooser (range_machine_of g table capacity cells) ℤ (effect_in g table cells) (pos 0) (step_in g table cells) nat_abs c d) (budget : ℕ) (inputs : List ℕ)
-    (passed : check_range_inputs g capacity inputs ≡ Passed) where
+    (passed : check_range_inputs g capacity inputs ≡ Ok tt) where
   abbrev x : Tabled Refusal Tag Range ℤ
   x = handle_run g table capacity cells d budget inputs
 
@@ -164,7 +164,7 @@ module _ (g : List Instruction) (table : List NamedArray) (capacity cells : ℕ)
   picks_same t f s u h = rw (enabled_same M ℤ (effect_in g table cells) (pos 0) (StandsAt nat_abs t) s u h, ending_same M ℤ (effect_in g table cells) (pos 0) (StandsAt nat_abs t) s u h)
 
   -- the end of a range run without a bound, read through the table of the run over handles
-  pub by_handles : (budget : ℕ) (inputs : List ℕ) → check_range_inputs g capacity inputs ≡ Passed
+  pub by_handles : (budget : ℕ) (inputs : List ℕ) → check_range_inputs g capacity inputs ≡ Ok tt
       → let x = handle_run g table capacity cells (by_pick N (by_picks N) picks) budget inputs in
       run_bounded M (held_in g 0) (by_picks M) budget picks 0 (first_ranges inputs cells)
       ≡ record { outcome = x.ended.outcome; firings = x.ended.firings; state = state_by (meaning x.table) x.ended.state }
@@ -206,15 +206,15 @@ Few s = length s.added ≤ length (effect_keys (machine_of [] [] 0 0) s.asked)
 
 new_few : (t : List Range) (q : Option Range) (keys : List (Key Tag)) → 0 < length keys → Few (send_new t q keys)
 unfolding send_new
-new_few t none keys h = zero-le
-new_few t (some r) keys h = h
+new_few t None keys h = zero-le
+new_few t (Some r) keys h = h
 
 few_of : (o : Operation) (g : List Instruction) (table : List NamedArray) (cells : ℕ) (t : List Range) (τ : Tag) (r : Instruction) (a b : ℤ) (keys : List (Key Tag)) → (adds o ≡ true → 0 < length keys) → Few (range_step o g table cells t τ r a b keys)
 unfolding range_step
 few_of Operations.Copy g table cells t τ r a b keys h = zero-le
 few_of Operations.Sink g table cells t τ r a b keys h = zero-le
 few_of Operations.Out g table cells t τ r a b keys h = zero-le
-few_of Operations.Const g table cells t τ r a b keys h = new_few t (some (single r.constant)) keys (h refl)
+few_of Operations.Const g table cells t τ r a b keys h = new_few t (Some (single r.constant)) keys (h refl)
 few_of Operations.Switch g table cells t τ r a b keys h = zero-le
 few_of Operations.Gate g table cells t τ r a b keys h = zero-le
 few_of Operations.Next g table cells t τ r a b keys h = zero-le
@@ -227,7 +227,7 @@ few_of (Operations.OnConstant o) g table cells t τ r a b keys h = new_few t (ra
 few_of Operations.Unknown g table cells t τ r a b keys h = zero-le
 
 -- so the table, which starts with one range more than there are inputs, is never longer than the tokens and one; a firing that is refused may add one more
-pub steps_add_few : (graph : List ℕ) → check_graph graph ≡ Passed → (table : List NamedArray) (cells : ℕ) (t : List Range) (τ : Tag) (a b : ℤ)
+pub steps_add_few : (graph : List ℕ) → check_graph graph ≡ Ok tt → (table : List NamedArray) (cells : ℕ) (t : List Range) (τ : Tag) (a b : ℤ)
     → length (step_in (graph_of graph) table cells t τ a b).added ≤ length (effect_keys (machine_of [] [] 0 0) (step_in (graph_of graph) table cells t τ a b).asked)
 unfolding step_in
 steps_add_few graph passed table cells t τ a b =

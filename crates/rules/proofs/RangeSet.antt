@@ -1,23 +1,19 @@
 -- 02, R-11: by what refusals alone a range run may differ from a plain one (`OfRanges`; `effects_related` in RangeEffects says that it does not by others). The instruction
 -- set over ranges is lawful (`ranges_lawful`). What a bound holds back does not depend on values (`held_same`). Assumes nothing.
+use Rattle.std.proofs.Common.{Ok}
 use Prim.Native.Nat.{ℕ, ◌+◌, ◌<◌}
 use mathlib.Core.Path.{◌≡◌, refl}
 use mathlib.Core.Bool.{Bool, true, false, cond}
 use mathlib.Core.Logic.{◌⊎◌}
 use mathlib.Core.List.{List, [], ◌∷◌}
-use mathlib.Core.Option.{Option, none, some}
 use lib.ListN.{length}
 use lib.Dec.{ltb}
 use lib.IntN.{ℤ, pos, negsuc, nat_abs}
+use Rattle.std.specs.Prelude.{Option, None, Some}
 use Rattle.record.specs.declared.tag.Path.{Path}
 use Rattle.record.specs.declared.tag.Tag.{Tag}
 use Rattle.record.specs.declared.array.NamedArray.{NamedArray}
-use Rattle.record.specs.declared.tag.Entered.{Entered}
-use Rattle.record.specs.declared.tag.Entered.TheVariants.{In, TooDeep}
-use Rattle.record.specs.declared.tag.Left.{Left}
-use Rattle.record.specs.declared.tag.Left.TheVariants.{To, NoCaller}
-use Rattle.record.specs.declared.tag.Next.{Next}
-use Rattle.record.specs.declared.tag.Next.TheVariants.{Is, Last}
+use Rattle.record.specs.declared.tag.Caller.{Caller}
 use Rattle.record.specs.declared.instruction.Instruction.{Instruction}
 use Rattle.record.specs.declared.operation.Operation.{Operation}
 use Rattle.record.specs.declared.operation.Operation.TheVariants as Operations
@@ -31,7 +27,6 @@ use Rattle.machine.specs.InStep.{PlaceByPlace, no_more, pair, both_live, both_sp
 use Rattle.rules.specs.declared.answer.Refusal.{Refusal}
 use Rattle.rules.specs.declared.answer.Refusal.TheVariants as Refusals
 use Rattle.machine.specs.Orders.{Lawful}
-use Rattle.rules.specs.declared.answer.Checked.TheVariants.{Passed}
 use Rattle.rules.specs.Check.{any, instruction_at, check_graph}
 use Rattle.rules.specs.InstructionSet.{EffectOver, key_under, all_under, side_of, send_next, send_entered, return_of, send_returned, send_left, on_cell, cell_number}
 use Rattle.rules.specs.Held.{is_pending, holds_back, held_in}
@@ -53,15 +48,15 @@ module _ {V₁ V₂ : Type 0} (R : V₁ → V₂ → Type 0) (Alone : Refusal �
   abbrev pub Alike : EffectOver V₁ → EffectOver V₂ → Type 0
   Alike e d = RelatedEffect R Alone e d
 
-  pub next_related : {a : V₁} {x : V₂} → R a x → (n : Next) (r : Instruction) → Alike (send_next n r a) (send_next n r x)
+  pub next_related : {a : V₁} {x : V₂} → R a x → (n : Option Tag) (r : Instruction) → Alike (send_next n r a) (send_next n r x)
   unfolding send_next
-  next_related h (Is τ) r = both_send h
-  next_related h Last r = both_refuse
+  next_related h (Some τ) r = both_send h
+  next_related h None r = both_refuse
 
-  pub entered_related : {a : V₁} {x : V₂} → R a x → (e : Entered) (r : Instruction) → Alike (send_entered e r a) (send_entered e r x)
+  pub entered_related : {a : V₁} {x : V₂} → R a x → (e : Option Tag) (r : Instruction) → Alike (send_entered e r a) (send_entered e r x)
   unfolding send_entered
-  entered_related h (In τ) r = both_send h
-  entered_related h TooDeep r = both_refuse
+  entered_related h (Some τ) r = both_send h
+  entered_related h None r = both_refuse
 
   returned_related : {a : V₁} {x : V₂} → R a x → (g : List Instruction) (i k : ℕ) (τ : Tag) → Alike (send_returned g i k τ a) (send_returned g i k τ x)
   unfolding send_returned
@@ -71,10 +66,10 @@ module _ {V₁ V₂ : Type 0} (R : V₁ → V₂ → Type 0) (Alone : Refusal �
       go true = both_send h
       go false = both_refuse
 
-  pub left_related : {a : V₁} {x : V₂} → R a x → (g : List Instruction) (l : Left) (r : Instruction) → Alike (send_left g l r a) (send_left g l r x)
+  pub left_related : {a : V₁} {x : V₂} → R a x → (g : List Instruction) (l : Option Caller) (r : Instruction) → Alike (send_left g l r a) (send_left g l r x)
   unfolding send_left
-  left_related h g (To site τ) r = returned_related h g (return_of site g) (nat_abs r.constant) τ
-  left_related h g NoCaller r = both_send h
+  left_related h g (Some c) r = returned_related h g (return_of c.site g) (nat_abs r.constant) c.tag
+  left_related h g None r = both_send h
 
   pub cell_related : (cells : ℕ) (z : ℤ) (f : ℕ → EffectOver V₁) (d : ℕ → EffectOver V₂) → ((c : ℕ) → Alike (f c) (d c)) → Alike (on_cell cells z f) (on_cell cells z d)
   unfolding on_cell
@@ -108,8 +103,8 @@ module _ {V₁ V₂ : Type 0} (R : V₁ → V₂ → Type 0) where
 
 of_ranges : (cells : ℕ) (q : Option Range) (keys : List (Key Tag)) → LawfulEffect cells (send_range q keys)
 unfolding send_range
-of_ranges cells none keys = (tt, tt)
-of_ranges cells (some r) keys = (tt, tt)
+of_ranges cells None keys = (tt, tt)
+of_ranges cells (Some r) keys = (tt, tt)
 
 of_side : (cells : ℕ) (b : Range) (τ : Tag) (r : Instruction) (a : Range) → LawfulEffect cells (send_side b τ r a)
 unfolding send_side
@@ -145,7 +140,7 @@ range_operation (Operations.OnTwo o) g table cells τ r a b keys h = of_ranges c
 range_operation (Operations.OnConstant o) g table cells τ r a b keys h = of_ranges cells (range_of o a (single r.constant)) keys
 range_operation Operations.Unknown g table cells τ r a b keys h = (tt, tt)
 
-module _ (graph : List ℕ) (passed : check_graph graph ≡ Passed) where
+module _ (graph : List ℕ) (passed : check_graph graph ≡ Ok tt) where
   range_effect : (table : List NamedArray) (cells : ℕ) (τ : Tag) (a b : Range) → LawfulEffect cells (range_effect_in (graph_of graph) table cells τ a b)
   unfolding range_effect_in
   range_effect table cells τ a b =

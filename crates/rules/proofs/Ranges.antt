@@ -1,6 +1,7 @@
 -- 02, R-11, proved: from states of which one is within the other a range run and a plain run go in step (`states_in_step`), and so they do from inputs
 -- (`runs_in_step`); what a range run that completes or hangs promises of every choice of inputs within the ranges (`ranges_promise`); and any two orders of
 -- range runs agree (`any_two_range_orders`). Assumes nothing.
+use Rattle.std.proofs.Common.{Ok, Err}
 use Prim.Native.Nat.{ℕ, zero, suc, ◌/◌}
 use mathlib.Core.Path.{◌≡◌, refl, sym, ap, ◌∙◌, subst}
 use mathlib.Core.Bool.{Bool, true, not, ◌&&◌}
@@ -39,9 +40,7 @@ use Rattle.machine.proofs.Orders.{orders}
 use Rattle.machine.proofs.Bounded.{unbounded}
 use Rattle.rules.specs.declared.answer.Refusal.{Refusal}
 use Rattle.rules.specs.declared.answer.Refusal.TheVariants as Refusals
-use Rattle.rules.specs.declared.answer.Checked.{Checked}
-use Rattle.rules.specs.declared.answer.Checked.TheVariants.{Passed, Failed}
-use Rattle.rules.specs.Check.{demand, any, in_turn, operands_at, check_graph, check_stores, check_arrays, good_input, second_input, check_inputs}
+use Rattle.rules.specs.Check.{demand, any, in_turn, operands_at, check_graph, check_stores, check_arrays, good_input, second_input, check_inputs, Checked}
 use Rattle.rules.specs.InstructionSet.{effect_in, machine_of}
 use Rattle.rules.specs.Run.{content_held, token_held, first_state, picks_of, unless_failed}
 use Rattle.rules.specs.Held.{held_in}
@@ -170,7 +169,7 @@ chosen_related g l m (e, c) =
 -- ---- from inputs
 
 -- each row is good
-pub good_rows : (g : List Instruction) (n i : ℕ) (l : List ℕ) → in_turn (λ k good. demand good Refusals.BadInput k) i (rows range_token_width (good_input g) n l) ≡ Passed
+pub good_rows : (g : List Instruction) (n i : ℕ) (l : List ℕ) → in_turn (λ k good. demand good Refusals.BadInput k) i (rows range_token_width (good_input g) n l) ≡ Ok tt
     → Each (λ b. good_input g b ≡ true) (rows range_token_width (λ b. b) n l)
 good_rows g zero i l e = tt
 good_rows g (suc n) i l e =
@@ -185,7 +184,7 @@ module _ (g : List Instruction) (ranges inputs : List ℕ) (c : ChosenInputs ran
   abbrev Rows : List (List ℕ)
   Rows = all_rows range_token_width (λ b. b) ranges
 
-  first_related : (cells : ℕ) → in_turn (λ k good. demand good Refusals.BadInput k) 0 (all_rows range_token_width (good_input g) ranges) ≡ Passed → RelatedState Holds (first_ranges ranges cells) (first_state inputs cells)
+  first_related : (cells : ℕ) → in_turn (λ k good. demand good Refusals.BadInput k) 0 (all_rows range_token_width (good_input g) ranges) ≡ Ok tt → RelatedState Holds (first_ranges ranges cells) (first_state inputs cells)
   unfolding first_ranges first_state
   first_related cells e = record {
     tokens = rw (all_read range_token_width decode_range ranges, all_read token_width Tokens.decode_token inputs, map_map Tokens.decode_token token_held (all_rows token_width (λ b. b) inputs))
@@ -225,7 +224,7 @@ module _ (ranges inputs : List ℕ) (each : PlaceByPlace SameFields (all_rows ra
   same_good_rows g = all_read range_token_width (good_input g) ranges ∙ same_map SameFields (good_input g) (good_input g) (λ l m k. same_good k g) each ∙ sym (all_read token_width (good_input g) inputs)
 
   -- nor do 8 and 9: where no range is refused by 23, all of the check is that of the plain inputs
-  pub same_fields : (g : List Instruction) (capacity : ℕ) → in_turn (λ k r. demand (is_proper_range r) Refusals.Undecided k) 0 (all_rows range_token_width range_in ranges) ≡ Passed
+  pub same_fields : (g : List Instruction) (capacity : ℕ) → in_turn (λ k r. demand (is_proper_range r) Refusals.Undecided k) 0 (all_rows range_token_width range_in ranges) ≡ Ok tt
       → check_range_inputs g capacity ranges ≡ check_inputs g capacity inputs
   unfolding check_range_inputs check_inputs
   same_fields g capacity proper =
@@ -233,7 +232,7 @@ module _ (ranges inputs : List ℕ) (each : PlaceByPlace SameFields (all_rows ra
       rw (same_good_rows g, proper, pair_length SamePlace tokens_placed, nine)
 
 -- each range holds its choice, so that none is refused by 23
-all_proper_lem : (i : ℕ) {xs ys : List (List ℕ)} → PlaceByPlace ChosenFrom xs ys → in_turn (λ k r. demand (is_proper_range r) Refusals.Undecided k) i (map range_in xs) ≡ Passed
+all_proper_lem : (i : ℕ) {xs ys : List (List ℕ)} → PlaceByPlace ChosenFrom xs ys → in_turn (λ k r. demand (is_proper_range r) Refusals.Undecided k) i (map range_in xs) ≡ Ok tt
 all_proper_lem i no_more = refl
 all_proper_lem i (pair {x = l} k t) = rw (le_test (range_in l).low (range_in l).high (holds_proper (range_in l) _ k.value)) (all_proper_lem (suc i) t)
 
@@ -248,10 +247,10 @@ module _ (ranges inputs : List ℕ) (c : ChosenInputs ranges inputs) where
 
 -- of a check that passed
 record RangesPassed (graph arrays ranges picks : List ℕ) (k ledger cells : ℕ) : Type 0 where
-  graph_passed : check_graph graph ≡ Passed
-  inputs_passed : check_range_inputs (graph_of graph) (range_capacity_of ledger) ranges ≡ Passed
+  graph_passed : check_graph graph ≡ Ok tt
+  inputs_passed : check_range_inputs (graph_of graph) (range_capacity_of ledger) ranges ≡ Ok tt
 
-ranges_passed : (graph arrays ranges picks : List ℕ) (k ledger cells : ℕ) → check_ranges graph arrays ranges picks k ledger cells ≡ Passed → RangesPassed graph arrays ranges picks k ledger cells
+ranges_passed : (graph arrays ranges picks : List ℕ) (k ledger cells : ℕ) → check_ranges graph arrays ranges picks k ledger cells ≡ Ok tt → RangesPassed graph arrays ranges picks k ledger cells
 unfolding check_ranges
 ranges_passed graph arrays ranges picks k ledger cells e =
     let parts = and_then_passed (check_graph graph) _ e in
@@ -260,7 +259,7 @@ ranges_passed graph arrays ranges picks k ledger cells e =
     record { graph_passed = parts.0; inputs_passed = last.1 }
 
 -- the first of the tests passed
-pub sixth_passed : (g : List Instruction) (capacity : ℕ) (ranges : List ℕ) → check_range_inputs g capacity ranges ≡ Passed → in_turn (λ k good. demand good Refusals.BadInput k) 0 (all_rows range_token_width (good_input g) ranges) ≡ Passed
+pub sixth_passed : (g : List Instruction) (capacity : ℕ) (ranges : List ℕ) → check_range_inputs g capacity ranges ≡ Ok tt → in_turn (λ k good. demand good Refusals.BadInput k) 0 (all_rows range_token_width (good_input g) ranges) ≡ Ok tt
 unfolding check_range_inputs
 sixth_passed g capacity ranges e = (and_then_passed (in_turn (λ k good. demand good Refusals.BadInput k) 0 (all_rows range_token_width (good_input g) ranges)) _ e).0
 
@@ -291,8 +290,8 @@ runs_in_step graph arrays ranges inputs picks budget k range_ledger range_cells 
   where
     go : (x : Checked) → check_ranges graph arrays ranges picks k range_ledger range_cells ≡ x
         → ResultsInStep (range_result graph arrays ranges picks budget k range_ledger range_cells) (bounded graph arrays inputs picks budget k ledger cells)
-    go (Failed r p) e = let f = sym (same_checks graph arrays ranges inputs picks k range_ledger range_cells ledger cells c m) ∙ e in rw (e, f) (refl, refl)
-    go Passed e =
+    go (Err fault) e = let f = sym (same_checks graph arrays ranges inputs picks k range_ledger range_cells ledger cells c m) ∙ e in rw (e, f) (refl, refl)
+    go (Ok _) e =
         let f = sym (same_checks graph arrays ranges inputs picks k range_ledger range_cells ledger cells c m) ∙ e in
         rw (e, f) (passed_in_step graph arrays ranges inputs picks k range_ledger range_cells ledger cells c m budget (ranges_passed graph arrays ranges picks k range_ledger range_cells e))
 
@@ -332,7 +331,7 @@ lows_related ranges cells = record {
   cells = cells_related Any cells;
 }
 
-ranges_good : (g : List Instruction) (table : List NamedArray) (capacity cells : ℕ) (ranges : List ℕ) → check_range_inputs g capacity ranges ≡ Passed → Good (range_machine_of g table capacity cells) (first_ranges ranges cells)
+ranges_good : (g : List Instruction) (table : List NamedArray) (capacity cells : ℕ) (ranges : List ℕ) → check_range_inputs g capacity ranges ≡ Ok tt → Good (range_machine_of g table capacity cells) (first_ranges ranges cells)
 unfolding check_range_inputs lows
 ranges_good g table capacity cells ranges e =
     let ts = all_rows range_token_width Tokens.decode_token ranges in
@@ -366,8 +365,8 @@ any_two_range_orders graph arrays ranges picks picks' budget ledger cells a b = 
     M = range_machine_of (graph_of graph) (arrays_of arrays) (range_capacity_of ledger) (cells / range_cell_width)
 
     go : (x : Checked) → check_ranges graph arrays ranges picks 0 ledger cells ≡ x → SameEnds (range_result graph arrays ranges picks budget 0 ledger cells) (range_result graph arrays ranges picks' budget 0 ledger cells)
-    go (Failed r p) e = let e' = sym (same_check graph arrays ranges picks picks' 0 ledger cells a b) ∙ e in rw (e, e') (refl, refl)
-    go Passed e =
+    go (Err fault) e = let e' = sym (same_check graph arrays ranges picks picks' 0 ledger cells a b) ∙ e in rw (e, e') (refl, refl)
+    go (Ok _) e =
         let p = ranges_passed graph arrays ranges picks 0 ledger cells e in
         let e' = sym (same_check graph arrays ranges picks picks' 0 ledger cells a b) ∙ e in
         let n = none_held (graph_of graph) (arrays_of arrays) (range_capacity_of ledger) (cells / range_cell_width) budget in

@@ -1,5 +1,6 @@
 -- Which refusals the checks and the firings give: none is 18 or 20 (`check_early`, `profile_early`, `firing_early`), so that 18 is given by a profile alone, and 20 by a replay
 -- alone. Assumes nothing.
+use Rattle.std.proofs.Common.{Ok, Err}
 use Prim.Native.Nat.{ℕ, suc, ◌+◌, ◌/◌, ◌%◌, ◌<◌}
 use mathlib.Core.Path.{◌≡◌}
 use mathlib.Core.Bool.{Bool, true, false, not, ◌&&◌, cond}
@@ -8,19 +9,13 @@ use native.Mathlib.Omega.{arith}
 use lib.Dec.{eqb, leb, ltb}
 use lib.ListN.{length, take}
 use lib.IntN.{ℤ, pos, negsuc, nat_abs}
+use Rattle.std.specs.Prelude.{Option, None, Some}
 use Rattle.record.specs.declared.tag.Tag.{Tag}
 use Rattle.record.specs.declared.array.NamedArray.{NamedArray}
-use Rattle.record.specs.declared.tag.Next.{Next}
-use Rattle.record.specs.declared.tag.Next.TheVariants.{Is, Last}
-use Rattle.record.specs.declared.tag.Entered.{Entered}
-use Rattle.record.specs.declared.tag.Entered.TheVariants.{In, TooDeep}
-use Rattle.record.specs.declared.tag.Left.{Left}
-use Rattle.record.specs.declared.tag.Left.TheVariants.{To, NoCaller}
+use Rattle.record.specs.declared.tag.Caller.{Caller}
 use Rattle.record.specs.declared.instruction.Instruction.{Instruction}
 use Rattle.record.specs.declared.operation.Operation.{Operation}
 use Rattle.record.specs.declared.operation.Operation.TheVariants as Operations
-use Rattle.arithmetic.specs.declared.Computed.{Computed}
-use Rattle.arithmetic.specs.declared.Computed.TheVariants as Results
 use Rattle.arithmetic.specs.Arithmetic.{compute_of}
 use Rattle.buffer.specs.Rows.{whole, all_rows}
 use Rattle.record.specs.GraphRecords.{is_graph_length, graph_of, destinations, operands_of, operation_of}
@@ -33,10 +28,8 @@ use Rattle.machine.specs.Machine.{Key, refuse, send, read, write, State, not_fir
 use Rattle.machine.proofs.Refusals.{RefusesOnly, refused_only}
 use Rattle.rules.specs.declared.answer.Refusal.{Refusal}
 use Rattle.rules.specs.declared.answer.Refusal.TheVariants as Refusals
-use Rattle.rules.specs.declared.answer.Checked.{Checked}
-use Rattle.rules.specs.declared.answer.Checked.TheVariants.{Passed, Failed}
 use Rattle.rules.specs.Answer.{number_of}
-use Rattle.rules.specs.Check.{demand, ◌and_then◌, all, in_turn, instruction_at, fan_out_allowed, unused_are_zero, good_arc, good_site, check_record, check_graph, check_stores, inside_store, names_good, check_arrays, good_input, second_input, check_inputs, check, most_cells}
+use Rattle.rules.specs.Check.{demand, ◌and_then◌, all, in_turn, instruction_at, fan_out_allowed, unused_are_zero, good_arc, good_site, check_record, check_graph, check_stores, inside_store, names_good, check_arrays, good_input, second_input, check_inputs, check, most_cells, Checked}
 use Rattle.rules.specs.InstructionSet.{EffectHere, all_under, send_computed, send_next, send_entered, send_returned, send_left, return_of, on_cell, cell_number, effect_of, effect_in, machine_of}
 use Rattle.rules.specs.Profile.{check_profile_stores, check_profile}
 
@@ -54,16 +47,16 @@ below_common r h = record { not_full_lem = λ z. omega (arith, z, h); not_named_
 -- ---- before any firing
 
 abbrev pub Early : Checked → Type 0
-Early Passed = Unit {0}
-Early (Failed r p) = Common r
+Early (Ok _) = Unit {0}
+Early (Err fault) = Common fault.refusal
 
 demand_early : (b : Bool) (r : Refusal) (p : ℕ) → Common r → Early (demand b r p)
 demand_early true r p h = tt
 demand_early false r p h = h
 
 then_early : (a b : Checked) → Early a → Early b → Early (a and_then b)
-then_early Passed b h k = k
-then_early (Failed r p) b h k = h
+then_early (Ok _) b h k = k
+then_early (Err fault) b h k = h
 
 -- a demand, and what comes after it
 first_early : (b : Bool) (r : Refusal) (p : ℕ) (c : Checked) → Common r → Early c → Early (demand b r p and_then c)
@@ -139,25 +132,25 @@ of_cond : (b : Bool) (x y : EffectHere) → EarlyEffect x → EarlyEffect y → 
 of_cond true x y h k = h
 of_cond false x y h k = k
 
-of_computed : (c : Computed) (keys : List (Key Tag)) → EarlyEffect (send_computed c keys)
+of_computed : (c : Option ℤ) (keys : List (Key Tag)) → EarlyEffect (send_computed c keys)
 unfolding send_computed
-of_computed (Results.Value v) keys = tt
-of_computed Results.OutOfRange keys = omega arith
+of_computed (Some v) keys = tt
+of_computed None keys = omega arith
 
-of_next : (n : Next) (r : Instruction) (v : ℤ) → EarlyEffect (send_next n r v)
+of_next : (n : Option Tag) (r : Instruction) (v : ℤ) → EarlyEffect (send_next n r v)
 unfolding send_next
-of_next (Is τ) r v = tt
-of_next Last r v = omega arith
+of_next (Some τ) r v = tt
+of_next None r v = omega arith
 
-of_entered : (e : Entered) (r : Instruction) (v : ℤ) → EarlyEffect (send_entered e r v)
+of_entered : (e : Option Tag) (r : Instruction) (v : ℤ) → EarlyEffect (send_entered e r v)
 unfolding send_entered
-of_entered (In τ) r v = tt
-of_entered TooDeep r v = omega arith
+of_entered (Some τ) r v = tt
+of_entered None r v = omega arith
 
-of_left : (g : List Instruction) (l : Left) (r : Instruction) (v : ℤ) → EarlyEffect (send_left g l r v)
+of_left : (g : List Instruction) (l : Option Caller) (r : Instruction) (v : ℤ) → EarlyEffect (send_left g l r v)
 unfolding send_left send_returned
-of_left g (To site τ) r v = of_cond (ltb (return_of site g + nat_abs r.constant) (length g)) (send v _) (refuse Refusals.NoReturn) tt (omega arith)
-of_left g NoCaller r v = tt
+of_left g (Some c) r v = of_cond (ltb (return_of c.site g + nat_abs r.constant) (length g)) (send v _) (refuse Refusals.NoReturn) tt (omega arith)
+of_left g None r v = tt
 
 of_cell : (cells : ℕ) (a : ℤ) (f : ℕ → EffectHere) → ((c : ℕ) → EarlyEffect (f c)) → EarlyEffect (on_cell cells a f)
 unfolding on_cell

@@ -1,4 +1,5 @@
 -- R-7 over the rules: a replay of the log that a run has written gives the run again (`log_replays`). Assumes nothing.
+use Rattle.std.proofs.Common.{Ok, Err}
 use Prim.Native.Nat.{ℕ, ◌*◌, ◌/◌, ◌≤◌}
 use mathlib.Core.Path.{◌≡◌, refl, sym, ap, ◌∙◌}
 use mathlib.Core.Bool.{Bool, true, false, ◌&&◌, cond}
@@ -31,11 +32,10 @@ use Rattle.machine.proofs.Runs.{ran}
 use Rattle.machine.proofs.Orders.{by_picks_lawful}
 use Rattle.machine.proofs.Reached.{sequence_reaches}
 use Rattle.machine.proofs.Replay.{run_replays, SameAs}
+use Rattle.rules.specs.declared.answer.Fault.{Fault}
 use Rattle.rules.specs.declared.answer.Refusal.{Refusal}
 use Rattle.rules.specs.declared.answer.Refusal.TheVariants.{BadStore, NotEnabled}
-use Rattle.rules.specs.declared.answer.Checked.{Checked}
-use Rattle.rules.specs.declared.answer.Checked.TheVariants.{Passed, Failed}
-use Rattle.rules.specs.Check.{demand, ◌and_then◌, check_graph, check_stores, check_arrays, check_inputs, check, most_cells}
+use Rattle.rules.specs.Check.{demand, ◌and_then◌, check_graph, check_stores, check_arrays, check_inputs, check, most_cells, Checked, fault_at}
 use Rattle.rules.specs.InstructionSet.{machine_of}
 use Rattle.rules.specs.Run.{token_record, first_state, picks_of, ran_to, unless_failed, answer, ledger_after, cells_after}
 use Rattle.rules.specs.Log.{names_in, log_suffices, check_log_stores, check_logged, LogResult, log_unless_failed, logged, log_after, replayed, NotBy7, AgainOfResults, LogReplaysOfResults}
@@ -47,27 +47,27 @@ use Rattle.rules.proofs.Log.{names_back, log_stores, log_passed}
 -- ---- the check of a replay, by that of the run
 
 -- stores that fail fail by 7, and where they pass those of the replay pass
-module _ (g s t i : Checked) (passes : s ≡ Passed → t ≡ Passed) where
-  also_passed : (g and_then s and_then i) ≡ Passed → (g and_then t and_then i) ≡ Passed
+module _ (g s t i : Checked) (passes : s ≡ Ok tt → t ≡ Ok tt) where
+  also_passed : (g and_then s and_then i) ≡ Ok tt → (g and_then t and_then i) ≡ Ok tt
   also_passed e = go g s refl e
     where
-      go : (g c : Checked) → s ≡ c → (g and_then c and_then i) ≡ Passed → (g and_then t and_then i) ≡ Passed
-      go (Failed r p) c q f = f
-      go Passed (Failed r p) q f = let z : ◌≡◌ {A = ℕ} 0 1 = cc in absurd (omega arith)
-      go Passed Passed q f = rw (passes q) f
+      go : (g c : Checked) → s ≡ c → (g and_then c and_then i) ≡ Ok tt → (g and_then t and_then i) ≡ Ok tt
+      go (Err fault) c q f = f
+      go (Ok _) (Err fault) q f = let z : ◌≡◌ {A = ℕ} 0 1 = cc in absurd (omega arith)
+      go (Ok _) (Ok _) q f = rw (passes q) f
 
-  also_failed : ((q : Refusal) (n : ℕ) → s ≡ Failed q n → q ≡ BadStore) → (r : Refusal) (p : ℕ) → (g and_then s and_then i) ≡ Failed r p → ¬ (r ≡ BadStore) → (g and_then t and_then i) ≡ Failed r p
+  also_failed : ((q : Refusal) (n : ℕ) → s ≡ Err (fault_at q n) → q ≡ BadStore) → (r : Refusal) (p : ℕ) → (g and_then s and_then i) ≡ Err (fault_at r p) → ¬ (r ≡ BadStore) → (g and_then t and_then i) ≡ Err (fault_at r p)
   also_failed by7 r p e other = go g s refl e
     where
-      go : (g c : Checked) → s ≡ c → (g and_then c and_then i) ≡ Failed r p → (g and_then t and_then i) ≡ Failed r p
-      go (Failed q n) c h f = f
-      go Passed (Failed q n) h f = let z : q ≡ r = cc in absurd (other (sym z ∙ by7 q n h))
-      go Passed Passed h f = rw (passes h) f
+      go : (g c : Checked) → s ≡ c → (g and_then c and_then i) ≡ Err (fault_at r p) → (g and_then t and_then i) ≡ Err (fault_at r p)
+      go (Err fault) c h f = f
+      go (Ok _) (Err fault) h f = let z : fault ≡ fault_at r p = cc in absurd (other (sym (ap (λ (k : Fault). k.refusal) z) ∙ by7 fault.refusal fault.place h))
+      go (Ok _) (Ok _) h f = rw (passes h) f
 
-two_demands : (a b : Bool) (q : Refusal) (n : ℕ) → (demand a BadStore 0 and_then demand b BadStore 0) ≡ Failed q n → q ≡ BadStore
+two_demands : (a b : Bool) (q : Refusal) (n : ℕ) → (demand a BadStore 0 and_then demand b BadStore 0) ≡ Err (fault_at q n) → q ≡ BadStore
 two_demands true true q n e = let z : ◌≡◌ {A = ℕ} 0 1 = cc in absurd (omega arith)
-two_demands true false q n e = cc
-two_demands false b q n e = cc
+two_demands true false q n e = let z : fault_at q n ≡ fault_at BadStore 0 = cc in ap (λ (k : Fault). k.refusal) z
+two_demands false b q n e = let z : fault_at q n ≡ fault_at BadStore 0 = cc in ap (λ (k : Fault). k.refusal) z
 
 -- ---- the tags of a log are those of tokens
 
@@ -98,23 +98,23 @@ members_all P (a ∷ l) h = (h a (Memᴰ.head refl), members_all P l (λ b m. h 
 
 module _ (graph arrays inputs picks : List ℕ) (budget ledger cells lent : ℕ) where
   -- what the run accepts the replay accepts
-  stores_pass : check_log_stores (length inputs) (length picks) ledger cells budget lent ≡ Passed → check_stores (length inputs) 0 ledger cells ≡ Passed
+  stores_pass : check_log_stores (length inputs) (length picks) ledger cells budget lent ≡ Ok tt → check_stores (length inputs) 0 ledger cells ≡ Ok tt
   unfolding check_stores
   stores_pass p =
       let w = (log_stores (length inputs) (length picks) ledger cells budget lent p).0 in
       rw (w.whole_inputs, w.whole_ledger, w.whole_cells)
 
-  stores_fail : (q : Refusal) (n : ℕ) → check_log_stores (length inputs) (length picks) ledger cells budget lent ≡ Failed q n → q ≡ BadStore
+  stores_fail : (q : Refusal) (n : ℕ) → check_log_stores (length inputs) (length picks) ledger cells budget lent ≡ Err (fault_at q n) → q ≡ BadStore
   unfolding check_log_stores check_stores
   stores_fail q n p =
       two_demands (whole token_width most_tokens (length inputs) && (whole pick_width most_tokens (length picks) && (whole token_width most_tokens ledger && whole cell_width most_cells cells)))
       (log_suffices budget lent) q n p
 
-  replay_passes : check_logged graph arrays inputs picks budget ledger cells lent ≡ Passed → check graph arrays inputs [] ledger cells ≡ Passed
+  replay_passes : check_logged graph arrays inputs picks budget ledger cells lent ≡ Ok tt → check graph arrays inputs [] ledger cells ≡ Ok tt
   unfolding check_logged check
   replay_passes = also_passed (check_graph graph) (check_log_stores (length inputs) (length picks) ledger cells budget lent) (check_stores (length inputs) 0 ledger cells) (check_arrays (graph_of graph) (cells / cell_width) arrays and_then check_inputs (graph_of graph) (capacity_of ledger) inputs) stores_pass
 
-  replay_fails : (r : Refusal) (p : ℕ) → check_logged graph arrays inputs picks budget ledger cells lent ≡ Failed r p → ¬ (r ≡ BadStore) → check graph arrays inputs [] ledger cells ≡ Failed r p
+  replay_fails : (r : Refusal) (p : ℕ) → check_logged graph arrays inputs picks budget ledger cells lent ≡ Err (fault_at r p) → ¬ (r ≡ BadStore) → check graph arrays inputs [] ledger cells ≡ Err (fault_at r p)
   unfolding check_logged check
   replay_fails =
       also_failed (check_graph graph) (check_log_stores (length inputs) (length picks) ledger cells budget lent) (check_stores (length inputs) 0 ledger cells) (check_arrays (graph_of graph) (cells / cell_width) arrays and_then check_inputs (graph_of graph) (capacity_of ledger) inputs) stores_pass
@@ -170,8 +170,8 @@ log_replays graph arrays inputs picks budget ledger cells lent graph_bytes input
 
     go : (c : Checked) → check_logged graph arrays inputs picks budget ledger cells (length lent) ≡ c → NotBy7 (x c).result
         → AgainOfResults (x c).result (replayed graph arrays inputs (take ((answer (x c).result).firings * log_width) (log_after (x c) lent)) ledger cells)
-    go (Failed r p) f other = rw (replay_fails graph arrays inputs picks budget ledger cells (length lent) r p f other) (record { ledger_left = λ l. refl; cells_left = λ l. refl; firings = refl; tokens = refl; answered = λ n. refl })
-    go Passed f other =
+    go (Err fault) f other = rw (replay_fails graph arrays inputs picks budget ledger cells (length lent) fault.refusal fault.place f other) (record { ledger_left = λ l. refl; cells_left = λ l. refl; firings = refl; tokens = refl; answered = λ n. refl })
+    go (Ok _) f other =
         let h = log_passed graph arrays inputs picks budget ledger cells (length lent) f in
         rw (replay_passes graph arrays inputs picks budget ledger cells (length lent) f)
         (again graph inputs (arrays_of arrays) (capacity_of ledger) (cells / cell_width) h.start (whole_bytes cell_width most_cells cells h.stores.whole_cells).1 graph_bytes input_bytes budget (picks_of picks) lent)

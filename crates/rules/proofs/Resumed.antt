@@ -1,4 +1,5 @@
 -- 02, R-13, proved: from any saved state any two orders agree (`orders_from`). Assumes nothing.
+use Rattle.std.proofs.Common.{Ok, Err}
 use Prim.Native.Nat.{ℕ, ◌*◌, ◌/◌, ◌≤◌}
 use mathlib.Core.Path.{◌≡◌, refl, sym, ap, ◌∙◌}
 use mathlib.Core.Bool.{◌&&◌}
@@ -26,9 +27,7 @@ use Rattle.machine.proofs.Orders.{by_picks_lawful, orders_by, never_spent_by, re
 use Rattle.machine.proofs.Reached.{reached_run, reached_good}
 use Rattle.rules.specs.declared.answer.Refusal.{Refusal}
 use Rattle.rules.specs.declared.answer.Refusal.TheVariants.{DamagedState}
-use Rattle.rules.specs.declared.answer.Checked.{Checked}
-use Rattle.rules.specs.declared.answer.Checked.TheVariants.{Passed, Failed}
-use Rattle.rules.specs.Check.{all, demand, ◌and_then◌, check_graph, check_stores, check_arrays}
+use Rattle.rules.specs.Check.{all, demand, ◌and_then◌, check_graph, check_stores, check_arrays, Checked, fault_at}
 use Rattle.rules.specs.InstructionSet.{machine_of}
 use Rattle.rules.specs.Run.{token_held, cell_held, picks_of, refused_at_once, ran_to, unless_failed}
 use Rattle.rules.specs.Orders.{ResultsAgree, Allowed}
@@ -43,7 +42,7 @@ use Rattle.rules.proofs.Saved.{saved_under}
 
 -- ---- from a state that is well-formed
 
-module _ (graph : List ℕ) (passed : check_graph graph ≡ Passed) (table : List NamedArray) (capacity cells : ℕ) (few : capacity ≤ 2048) (f : ℕ) (s : State Tag ℤ) (good : Good (machine_of (graph_of graph) table capacity cells) s) where
+module _ (graph : List ℕ) (passed : check_graph graph ≡ Ok tt) (table : List NamedArray) (capacity cells : ℕ) (few : capacity ≤ 2048) (f : ℕ) (s : State Tag ℤ) (good : Good (machine_of (graph_of graph) table capacity cells) s) where
   abbrev M : Machine
   M = machine_of (graph_of graph) table capacity cells
 
@@ -101,7 +100,7 @@ module _ (graph ledger ledger' cells : List ℕ) (n : ℕ) (size : length ledger
 
 -- ---- in one ledger
 
-module _ (graph arrays ledger cells : List ℕ) (firings n : ℕ) (passed : check_graph graph ≡ Passed) where
+module _ (graph arrays ledger cells : List ℕ) (firings n : ℕ) (passed : check_graph graph ≡ Ok tt) where
   abbrev named : Checked
   named = check_arrays (graph_of graph) (length cells / cell_width) arrays
 
@@ -112,12 +111,12 @@ module _ (graph arrays ledger cells : List ℕ) (firings n : ℕ) (passed : chec
   unfolding check_saved check_stores
   after_stores picks a = rw (passed, a.allowed_picks, a.allowed_ledger, a.allowed_cells)
 
-  refused_so : (picks : List ℕ) (r : Refusal) (p : ℕ) → Allowed picks (length ledger) (length cells) → named and_then whether ≡ Failed r p
+  refused_so : (picks : List ℕ) (r : Refusal) (p : ℕ) → Allowed picks (length ledger) (length cells) → named and_then whether ≡ Err (fault_at r p)
       → carried graph arrays picks 2048 ledger cells firings n ≡ refused_at_once r p
   unfolding carried unless_failed
   refused_so picks r p a e = rw (after_stores picks a, e)
 
-  goes_on_lem : (picks : List ℕ) → Allowed picks (length ledger) (length cells) → named and_then whether ≡ Passed
+  goes_on_lem : (picks : List ℕ) → Allowed picks (length ledger) (length cells) → named and_then whether ≡ Ok tt
       → carried graph arrays picks 2048 ledger cells firings n
       ≡ ran_to (run_by (machine_saved graph (arrays_of arrays) ledger cells) (by_picks (machine_saved graph (arrays_of arrays) ledger cells)) 2048 (picks_of picks) firings (state_saved ledger cells n))
   unfolding carried unless_failed
@@ -125,15 +124,15 @@ module _ (graph arrays ledger cells : List ℕ) (firings n : ℕ) (passed : chec
 
   both_run : (picks picks' : List ℕ) → Allowed picks (length ledger) (length cells) → Allowed picks' (length ledger) (length cells) → (c : Checked) → named and_then whether ≡ c
       → ResultsAgree (carried graph arrays picks 2048 ledger cells firings n) (carried graph arrays picks' 2048 ledger cells firings n)
-  both_run picks picks' a a' (Failed r p) e = both_refused_lem r r p p (refused_so picks r p a e) (refused_so picks' r p a' e)
-  both_run picks picks' a a' Passed e =
+  both_run picks picks' a a' (Err fault) e = both_refused_lem fault.refusal fault.refusal fault.place fault.place (refused_so picks fault.refusal fault.place a e) (refused_so picks' fault.refusal fault.place a' e)
+  both_run picks picks' a a' (Ok _) e =
       let few = (whole_bytes token_width most_tokens (length ledger) a.allowed_ledger).1 in
       let t = demand_passed (state_taken graph ledger cells firings n) DamagedState 0 (and_then_passed named whether e).1 in
       let good = (saved_under graph (arrays_of arrays) ledger cells firings n t).good in
       rw (goes_on_lem picks a e, goes_on_lem picks' a' e)
       (agree_from graph passed (arrays_of arrays) (capacity_of (length ledger)) (length cells / cell_width) few firings (state_saved ledger cells n) good (picks_of picks) (picks_of picks'))
 
-graph_refused : (graph arrays picks ledger cells : List ℕ) (firings n : ℕ) (r : Refusal) (p : ℕ) → check_graph graph ≡ Failed r p → carried graph arrays picks 2048 ledger cells firings n ≡ refused_at_once r p
+graph_refused : (graph arrays picks ledger cells : List ℕ) (firings n : ℕ) (r : Refusal) (p : ℕ) → check_graph graph ≡ Err (fault_at r p) → carried graph arrays picks 2048 ledger cells firings n ≡ refused_at_once r p
 unfolding carried check_saved unless_failed
 graph_refused graph arrays picks ledger cells firings n r p e = rw e
 
@@ -141,7 +140,7 @@ pub orders_from : AnyTwoOrdersFrom
 orders_from graph arrays picks picks' ledger ledger' cells firings n a a' size same = go (check_graph graph) refl
   where
     go : (c : Checked) → check_graph graph ≡ c → ResultsAgree (carried graph arrays picks 2048 ledger cells firings n) (carried graph arrays picks' 2048 ledger' cells firings n)
-    go (Failed r p) e = both_refused_lem r r p p (graph_refused graph arrays picks ledger cells firings n r p e) (graph_refused graph arrays picks' ledger' cells firings n r p e)
-    go Passed e =
+    go (Err fault) e = both_refused_lem fault.refusal fault.refusal fault.place fault.place (graph_refused graph arrays picks ledger cells firings n fault.refusal fault.place e) (graph_refused graph arrays picks' ledger' cells firings n fault.refusal fault.place e)
+    go (Ok _) e =
         let b : Allowed picks' (length ledger) (length cells) = rw size (a' e) in
         rw (← carried_same graph ledger ledger' cells n size same arrays picks' 2048 firings) (both_run graph arrays ledger cells firings n e picks picks' (a e) b (named graph arrays ledger cells firings n e and_then whether graph arrays ledger cells firings n e) refl)

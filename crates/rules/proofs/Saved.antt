@@ -1,6 +1,7 @@
 -- 02, R-13: what holds of the inputs and of a saved state that is taken (`Resumable`: `resumable_start`, `resumable_saved`) holds of all that is reached from there
 -- (`resumable_reached`); and a state of which it holds, written to ledger and cells, is taken (`taken_again`). The test says what
 -- 02 lists (`saved_exactly`). Assumes nothing.
+use Rattle.std.proofs.Common.{Ok}
 use Prim.Native.Nat.{ℕ, zero, suc, ◌+◌, ◌/◌, ◌≤◌, ◌<◌}
 use mathlib.Core.Path.{◌≡◌, refl, sym, ◌∙◌}
 use mathlib.Core.Logic.{◌↔◌}
@@ -39,7 +40,6 @@ use Rattle.machine.specs.Saved.{Saved, all_tokens, names_cell, is_saved}
 use Rattle.machine.proofs.Saved.{saved_start, saved_reached}
 use Rattle.machine.proofs.Taken.{tested, taken_exactly}
 use Rattle.machine.proofs.Kept.{Each, OfContent, OfCell, OfToken, OfState, reached_keeps}
-use Rattle.rules.specs.declared.answer.Checked.TheVariants.{Passed}
 use Rattle.rules.specs.Check.{all, operands_at, check_graph, most_cells}
 use Rattle.rules.specs.InstructionSet.{machine_of}
 use Rattle.rules.specs.Run.{content_held, token_held, token_record, cell_held, cell_record, first_state}
@@ -64,7 +64,7 @@ any_table : (g : List Instruction) (table : List NamedArray) (capacity count f :
 unfolding is_saved
 any_table g table capacity count f s = refl
 
-module _ (graph : List ℕ) (bytes : Bytes graph) (passed : check_graph graph ≡ Passed) (table : List NamedArray) (capacity count : ℕ) where
+module _ (graph : List ℕ) (bytes : Bytes graph) (passed : check_graph graph ≡ Ok tt) (table : List NamedArray) (capacity count : ℕ) where
   abbrev g : List Instruction
   g = graph_of graph
 
@@ -196,7 +196,7 @@ all_both p q (x ∷ xs) =
           rw (c, d) (fro (s, t)),
     )
 
-module _ (graph ledger cells : List ℕ) (firings n : ℕ) (passed : check_graph graph ≡ Passed) where
+module _ (graph ledger cells : List ℕ) (firings n : ℕ) (passed : check_graph graph ≡ Ok tt) where
   abbrev gs : List Instruction
   gs = graph_of graph
 
@@ -248,7 +248,7 @@ saved_exactly graph ledger cells firings n passed = (λ e. words graph ledger ce
 
 -- ---- what is taken goes on
 
-module _ (graph ledger cells : List ℕ) (graph_bytes : Bytes graph) (passed : check_graph graph ≡ Passed) (table : List NamedArray) (ledger_bytes : Bytes ledger) (cell_bytes : Bytes cells) (firings n : ℕ) (e : state_taken graph ledger cells firings n ≡ true) where
+module _ (graph ledger cells : List ℕ) (graph_bytes : Bytes graph) (passed : check_graph graph ≡ Ok tt) (table : List NamedArray) (ledger_bytes : Bytes ledger) (cell_bytes : Bytes cells) (firings n : ℕ) (e : state_taken graph ledger cells firings n ≡ true) where
   abbrev c₀ : ℕ
   c₀ = capacity_of (length ledger)
 

@@ -4,6 +4,7 @@ use mathlib.Core.Path.{◌≡◌, refl}
 use mathlib.Core.Bool.{Bool, true, false, ◌&&◌}
 use mathlib.Core.List.{List, [], ◌∷◌}
 use lib.IntN.{ℤ, pos, nat_abs}
+use Rattle.std.specs.Prelude.{Option, None, Some, option_map}
 use Rattle.record.specs.declared.tag.Tag.{Tag}
 use Rattle.record.specs.declared.array.NamedArray.{NamedArray}
 use Rattle.record.specs.declared.instruction.Instruction.{Instruction}
@@ -12,11 +13,9 @@ use Rattle.record.specs.declared.operation.Operation.{Operation}
 use Rattle.record.specs.declared.operation.Operation.TheVariants as Operations
 use Rattle.record.specs.Calls.{next_of, enter_of, leave_of}
 use Rattle.record.specs.GraphRecords.{operation_of}
-use Rattle.arithmetic.specs.declared.Computed.{Computed}
-use Rattle.arithmetic.specs.declared.Computed.TheVariants.{Value, OutOfRange}
 use Rattle.arithmetic.specs.Arithmetic.{compute_of}
 use Rattle.arithmetic.specs.declared.Range.{Range}
-use Rattle.arithmetic.specs.Ranges.{single, may_be_zero, range_of, as_range}
+use Rattle.arithmetic.specs.Ranges.{single, may_be_zero, range_of}
 use Rattle.arithmetic.proofs.Ranged.{eq_eq_z}
 use Rattle.arithmetic.proofs.Singles.{single_exact}
 use Rattle.machine.specs.Machine.{Key, send, read, write, End, by_picks, State}
@@ -72,9 +71,9 @@ computed_exact : (o : Arithmetic) (x y : ℤ) (keys : List (Key Tag)) → Exact 
 unfolding send_range send_computed
 computed_exact o x y keys = rw (single_exact o x y) (go (compute_of o x y))
   where
-    go : (c : Computed) → Exact (send_range (as_range c) keys) (send_computed c keys)
-    go (Value v) = both_send refl
-    go OutOfRange = both_refuse
+    go : (c : Option ℤ) → Exact (send_range (option_map single c) keys) (send_computed c keys)
+    go (Some v) = both_send refl
+    go None = both_refuse
 
 operation_exact : (o : Operation) (g : List Instruction) (table : List NamedArray) (cells : ℕ) (τ : Tag) (r : Instruction) (x y : ℤ) (keys : List (Key Tag))
     → Exact (range_effect_of o g table cells τ r (single x) (single y) keys) (effect_of o g table cells τ r x y keys)

@@ -1,5 +1,6 @@
 -- The answer of a run is small: firings are no more than the budget and than the tokens, tokens are 2,048 at most, and a place is below 2,048 (`answer_small`).
 -- It holds whatever is lent, a run that is refused before any firing included. Assumes nothing.
+use Rattle.std.proofs.Common.{Ok, Err}
 use Prim.Native.Nat.{ℕ, suc, ◌+◌, ◌/◌, ◌<◌, ◌≤◌}
 use mathlib.Core.Path.{◌≡◌, refl}
 use mathlib.Core.Bool.{Bool, true, false, not, ◌&&◌}
@@ -25,10 +26,8 @@ use Rattle.machine.specs.Machine as Machine
 use Rattle.machine.proofs.Bounds.{PlaceWithin, picks_bounded, picks_firings}
 use Rattle.rules.specs.declared.answer.Refusal.{Refusal}
 use Rattle.rules.specs.declared.answer.Refusal.TheVariants.{GraphLength, UnknownOperation, FanOut, BadArc, BadSite, BadInput, BadStore, LedgerFull, SecondToken, BadArray}
-use Rattle.rules.specs.declared.answer.Checked.{Checked}
-use Rattle.rules.specs.declared.answer.Checked.TheVariants.{Passed, Failed}
 use Rattle.rules.specs.Answer.{place_in}
-use Rattle.rules.specs.Check.{demand, ◌and_then◌, all, in_turn, fan_out_allowed, unused_are_zero, good_arc, good_site, check_record, check_graph, check_stores, inside_store, names_good, check_arrays, good_input, second_input, check_inputs, check, most_cells}
+use Rattle.rules.specs.Check.{demand, ◌and_then◌, all, in_turn, fan_out_allowed, unused_are_zero, good_arc, good_site, check_record, check_graph, check_stores, inside_store, names_good, check_arrays, good_input, second_input, check_inputs, check, most_cells, Checked}
 use Rattle.rules.specs.InstructionSet.{machine_of}
 use Rattle.rules.specs.Run.{first_state, picks_of, refused_at_once, ran_to, outcome_of, result, answer}
 use Rattle.rules.specs.Small.{Small, AnswersSmall}
@@ -38,16 +37,16 @@ use Rattle.rules.proofs.Accepted.{whole_bytes, stores_whole, Accepted, accepted,
 -- ---- a refusal before any firing: its place is below 2,048
 
 abbrev pub Below : Checked → Type 0
-Below Passed = Unit {0}
-Below (Failed r p) = p < most_tokens
+Below (Ok _) = Unit {0}
+Below (Err fault) = fault.place < most_tokens
 
 pub demand_below : (b : Bool) (r : Refusal) (p : ℕ) → (b ≡ false → p < most_tokens) → Below (demand b r p)
 demand_below true r p h = tt
 demand_below false r p h = h refl
 
-pub then_below : (a b : Checked) → Below a → (a ≡ Passed → Below b) → Below (a and_then b)
-then_below Passed b h k = k refl
-then_below (Failed r p) b h k = h
+pub then_below : (a b : Checked) → Below a → (a ≡ Ok tt → Below b) → Below (a and_then b)
+then_below (Ok _) b h k = k refl
+then_below (Err fault) b h k = h
 
 -- a demand, and what comes after it
 first_below : (b : Bool) (r : Refusal) (p : ℕ) (c : Checked) → (b ≡ false → p < most_tokens) → (b ≡ true → Below c) → Below (demand b r p and_then c)
@@ -77,7 +76,7 @@ graph_below graph =
     first_below (is_graph_length (length graph)) GraphLength 0 _ (λ e. omega arith) (λ e.
     turn_below (check_record (graph_of graph)) (record_below (graph_of graph)) 0 (graph_of graph) (omega (arith, graph_few graph e)))
 
-pub arrays_below : (graph : List ℕ) (cells : ℕ) (arrays : List ℕ) → check_graph graph ≡ Passed → Below (check_arrays (graph_of graph) cells arrays)
+pub arrays_below : (graph : List ℕ) (cells : ℕ) (arrays : List ℕ) → check_graph graph ≡ Ok tt → Below (check_arrays (graph_of graph) cells arrays)
 unfolding check_graph check_arrays
 arrays_below graph cells arrays e =
     let long = demand_passed (is_graph_length (length graph)) GraphLength 0 (and_then_passed (demand (is_graph_length (length graph)) GraphLength 0) _ e).0 in
@@ -104,7 +103,7 @@ stores_below inputs picks ledger cells =
     demand_below (whole token_width most_tokens inputs && (whole pick_width most_tokens picks && (whole token_width most_tokens ledger && whole cell_width most_cells cells))) BadStore 0 (λ e. omega arith)
 
 -- whatever else the check of the stores asks, it has that of the inputs
-pub all_below_lem : (graph arrays inputs : List ℕ) (capacity cells : ℕ) (stores : Checked) → Below stores → (stores ≡ Passed → whole token_width most_tokens (length inputs) ≡ true)
+pub all_below_lem : (graph arrays inputs : List ℕ) (capacity cells : ℕ) (stores : Checked) → Below stores → (stores ≡ Ok tt → whole token_width most_tokens (length inputs) ≡ true)
     → Below (check_graph graph and_then stores and_then check_arrays (graph_of graph) cells arrays and_then check_inputs (graph_of graph) capacity inputs)
 all_below_lem graph arrays inputs capacity cells stores low wholes =
     then_below (check_graph graph) _ (graph_below graph) (λ e.

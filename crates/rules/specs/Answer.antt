@@ -1,14 +1,13 @@
 -- 01, "The answer and the refusals": an answer in this paper's numbers. Assumes nothing.
-use Rattle.std.specs.Prelude.{ℕ}
+use Rattle.std.specs.Prelude.{ℕ, Result, Ok, Err}
 use Rattle.rules.specs.declared.answer.Refusal.{Refusal}
 use Rattle.rules.specs.declared.answer.Refusal.TheVariants.{GraphLength, UnknownOperation, FanOut, BadArc, BadSite, BadInput, BadStore, LedgerFull, SecondToken, NoSuchCell, SecondWrite, OutOfRange, Iteration, TooDeep, NoReturn, ProfileFull, NotLoopFree, NotEnabled, BadBound, BadArray, Undecided, DamagedState, BadExpression, GraphTooLong}
 use Rattle.rules.specs.declared.answer.Outcome.{Outcome}
 use Rattle.rules.specs.declared.answer.Outcome.TheVariants.{Completed, Hung, Spent, Refused}
 use Rattle.rules.specs.declared.answer.Answer.{Answer}
+use Rattle.rules.specs.declared.answer.Fault.{Fault}
 use Rattle.rules.specs.declared.answer.Needs.{Needs}
-use Rattle.rules.specs.declared.answer.Needs.TheVariants as Bounds
-use Rattle.rules.specs.declared.answer.Checked.{Checked}
-use Rattle.rules.specs.declared.answer.Checked.TheVariants.{Passed, Failed}
+use Rattle.rules.specs.Check.{Checked}
 
 -- the column "No.", without 15 and 16, which R-5 and R-6 took out; then 02's
 abbrev pub number_of : Refusal → ℕ
@@ -63,10 +62,10 @@ values_of a = record { word = word_of a.outcome; firings = a.firings; tokens = a
 
 -- of a check: one that failed has the values of the answer that it leads to, "0 firings and 0 tokens", and one that passed has none but zeros
 abbrev pub values_checked : Checked → Values
-values_checked Passed = record { word = 0; firings = 0; tokens = 0; place = 0 }
-values_checked (Failed r place) = record { word = number_of r; firings = 0; tokens = 0; place = place }
+values_checked (Ok _) = record { word = 0; firings = 0; tokens = 0; place = 0 }
+values_checked (Err fault) = record { word = number_of fault.refusal; firings = 0; tokens = 0; place = fault.place }
 
 -- of the bounds of 02, R-3: word 0 and the two bounds in the place of firings and tokens, or the refusal's number with its place
-abbrev pub values_needed : Needs → Values
-values_needed (Bounds.AtMost firings tokens) = record { word = 0; firings = firings; tokens = tokens; place = 0 }
-values_needed (Bounds.Refused r place) = record { word = number_of r; firings = 0; tokens = 0; place = place }
+abbrev pub values_needed : Result Needs Fault → Values
+values_needed (Ok needs) = record { word = 0; firings = needs.firings; tokens = needs.tokens; place = 0 }
+values_needed (Err fault) = record { word = number_of fault.refusal; firings = 0; tokens = 0; place = fault.place }

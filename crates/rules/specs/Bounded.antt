@@ -10,9 +10,8 @@ use Rattle.machine.specs.Bounded as Machines
 use Rattle.machine.specs.Bounded.{run_bounded, log_bounded}
 use Rattle.machine.specs.Orders.{Quiescent, Refused}
 use Rattle.rules.specs.declared.answer.Refusal.TheVariants.{BadBound, DamagedState}
-use Rattle.rules.specs.declared.answer.Checked.{Checked}
 use Rattle.rules.specs.declared.answer.Answer.{Answer}
-use Rattle.rules.specs.Check.{demand, ◌and_then◌, check_stores, check_inputs, check_with}
+use Rattle.rules.specs.Check.{demand, ◌and_then◌, check_stores, check_inputs, check_with, Checked}
 use Rattle.rules.specs.InstructionSet.{machine_of}
 use Rattle.rules.specs.Run.{first_state, picks_of, Result, refused_at_once, ran_to, unless_failed, result, answer, Ran}
 use Rattle.rules.specs.Log.{check_log_stores, LogResult, log_unless_failed, logged, LogRan}

@@ -1,5 +1,6 @@
 -- How the rows of worked cases are written: graph records, tokens and answers in short; a case, with what the rules give of it and what its row says. Assumes nothing.
 use Rattle.std.specs.Prelude.{ℕ, suc, ◌*◌, List, [], ◌∷◌, ◌++◌, ℤ, pos}
+use Rattle.std.specs.Prelude as Std
 use Rattle.record.specs.declared.tag.Tag.{Tag}
 use Rattle.number.specs.Number.{bits_of, bytes16, bytes32}
 use Rattle.record.specs.GraphRecords.{graph_of}
@@ -9,6 +10,7 @@ use Rattle.record.specs.Widths.{token_width, cell_width}
 use Rattle.machine.specs.Steps.{StepRecord}
 use Rattle.machine.specs.Machine.{Key, Content, live, Token, Cell, absent, waiting, present, Effect}
 use Rattle.rules.specs.declared.answer.Refusal.{Refusal}
+use Rattle.rules.specs.declared.answer.Fault.{Fault}
 use Rattle.rules.specs.declared.answer.Needs.{Needs}
 use Rattle.rules.specs.Answer.{Values, values_of}
 use Rattle.rules.specs.InstructionSet.{effect_in}
@@ -80,7 +82,7 @@ pub data Case : Type 0 where
   -- a replay: what is lent; the answer
   replaying : (graph inputs log : List ℕ) → Values → Case
   -- a graph and its inputs: what it will need, before it runs
-  needing : (graph inputs : List ℕ) → Needs → Case
+  needing : (graph inputs : List ℕ) → Std.Result Needs Fault → Case
   -- a firing at a tag: what is given; the effect
   firing : (graph : List ℕ) → (cells : ℕ) → Tag → (a b : ℤ) → Effect Refusal Tag ℤ → Case
 
@@ -89,7 +91,7 @@ pub data Seen : Type 0 where
   plotted : Values → List StepRecord → List (Token Tag ℤ) → Seen
   wrote : Values → List ℕ → Seen
   again : Values → Seen
-  needed : Needs → Seen
+  needed : Std.Result Needs Fault → Seen
   did : Effect Refusal Tag ℤ → Seen
 
 unfoldable pub cells_written : ℕ → List (Cell ℤ) → List NumberedCell

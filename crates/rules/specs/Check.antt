@@ -1,6 +1,7 @@
 -- 01, "The answer and the refusals": what is refused before any firing is tried. "Order: 1; records in turn, each 2 to 5; 7; inputs in turn for 6;
 -- then 8 if they exceed the capacity; then 9 by input in turn, against the inputs before it."; R-10: 22 "before inputs". Assumes nothing.
-use Rattle.std.specs.Prelude.{ℕ, suc, ◌+◌, ◌/◌, Bool, true, false, not, ◌&&◌, ◌||◌, cond, List, [], ◌∷◌, length, take, get_or, ℤ, pos, eqb, leb, ltb}
+use Rattle.std.specs.Prelude.{ℕ, suc, ◌+◌, ◌/◌, Bool, true, false, not, ◌&&◌, ◌||◌, cond, List, [], ◌∷◌, length, take, get_or, ℤ, pos, eqb, leb, ltb, Result, Ok, Err}
+use Rattle.std.specs.Result.{result_and}
 use Rattle.std.specs.Int.Signed.{le_z}
 use Rattle.record.specs.declared.array.NamedArray.{NamedArray}
 use Rattle.record.specs.declared.token.Token.{Token}
@@ -14,21 +15,27 @@ use Rattle.record.specs.TokensAndTags.{tag_in, port_in, is_input, stands_at, mos
 use Rattle.record.specs.TokensAndTags as Tokens
 use Rattle.record.specs.Widths.{token_width, cell_width, pick_width, array_width}
 use Rattle.arithmetic.specs.Arithmetic.{eq_z}
+use Rattle.rules.specs.declared.answer.Fault.{Fault}
 use Rattle.rules.specs.declared.answer.Refusal.{Refusal}
 use Rattle.rules.specs.declared.answer.Refusal.TheVariants.{GraphLength, UnknownOperation, FanOut, BadArc, BadSite, BadInput, BadStore, LedgerFull, SecondToken, BadArray}
-use Rattle.rules.specs.declared.answer.Checked.{Checked}
-use Rattle.rules.specs.declared.answer.Checked.TheVariants.{Passed, Failed}
 
 -- ---- the first that fails counts
 
+-- a refusal with its place
+abbrev pub fault_at : Refusal → (place : ℕ) → Fault
+fault_at r p = record { refusal = r; place = p }
+
+-- what a check before the first firing says. A word of its own here, since a run has a `Result` of its own
+abbrev pub Checked : Type 0
+Checked = Result (Unit {0}) Fault
+
 abbrev pub demand : Bool → Refusal → (place : ℕ) → Checked
-demand true r p = Passed
-demand false r p = Failed r p
+demand true r p = Ok tt
+demand false r p = Err (fault_at r p)
 
 infixr 20 ◌and_then◌
-abbrev pub ◌and_then◌ : Checked → Checked → Checked
-Passed and_then c = c
-(Failed r p) and_then c = Failed r p
+abbrev pub ◌and_then◌ : {A : Type 0} → Checked → Result A Fault → Result A Fault
+c and_then r = result_and c r
 
 module _ {A : Type 0} where
   abbrev pub all : (A → Bool) → List A → Bool
@@ -41,7 +48,7 @@ module _ {A : Type 0} where
 
   -- the elements in turn, each with its position, counted from i
   abbrev pub in_turn : (ℕ → A → Checked) → (i : ℕ) → List A → Checked
-  in_turn f i [] = Passed
+  in_turn f i [] = Ok tt
   in_turn f i (x ∷ xs) = f i x and_then in_turn f (suc i) xs
 
 -- ---- the graph

@@ -2,7 +2,7 @@
 -- a firing are `fire` (machine/specs/Machine) with the instruction set of specs/InstructionSet; `result` (specs/Run) fires by them, and `run` of the crate
 -- engine promises `Ran` of it. What is stated here takes a run apart into its firings; it is proved in proofs/Left, and what is
 -- stated of replays and profiles in proofs/Others. Assumes nothing.
-use Rattle.std.specs.Prelude.{ℕ, suc, ◌-◌, ◌*◌, ◌/◌, ◌<◌, ◌≡◌, List, [], ◌∷◌, ◌++◌, length, take, drop, get_or, replicate, ℤ}
+use Rattle.std.specs.Prelude.{ℕ, suc, ◌-◌, ◌*◌, ◌/◌, ◌<◌, ◌≡◌, List, [], ◌∷◌, ◌++◌, length, take, drop, get_or, replicate, ℤ, Ok}
 use Rattle.number.specs.Number.{Bytes}
 use Rattle.record.specs.declared.tag.Tag.{Tag}
 use Rattle.record.specs.GraphRecords.{graph_of}
@@ -12,7 +12,6 @@ use Rattle.record.specs.Widths.{cell_width, log_width}
 use Rattle.machine.specs.Machine.{Machine, State, Activity, budget_spent, enabled, pick_of, by_picks, fire, after, end, run_by}
 use Rattle.rules.specs.declared.answer.Refusal.TheVariants.{NotEnabled}
 use Rattle.rules.specs.declared.answer.Outcome.TheVariants as Outcomes
-use Rattle.rules.specs.declared.answer.Checked.TheVariants.{Passed}
 use Rattle.rules.specs.Check.{check}
 use Rattle.rules.specs.InstructionSet.{machine_of}
 use Rattle.rules.specs.Run.{picks_of, Result, ran_to, result, answer, ledger_after, cells_after}
@@ -42,7 +41,7 @@ module _ (graph arrays inputs picks ledger cells : List ℕ) where
         at budget ≡ ran_to (after M b x chosen (fire M x chosen.tag) (λ y. run_by M (by_picks M) (budget - suc b) (drop (suc b) (picks_of picks)) (suc b) y))
 
 abbrev pub Demand2 : Type 0
-Demand2 = (graph arrays inputs picks ledger cells : List ℕ) → Bytes inputs → check graph arrays inputs picks (length ledger) (length cells) ≡ Passed → FiresByTheRules graph arrays inputs picks ledger cells
+Demand2 = (graph arrays inputs picks ledger cells : List ℕ) → Bytes inputs → check graph arrays inputs picks (length ledger) (length cells) ≡ Ok tt → FiresByTheRules graph arrays inputs picks ledger cells
 
 -- ---- the same of a replay and a profile
 
@@ -53,9 +52,9 @@ pub record InputsWritten (x : Result) (inputs ledger cells : List ℕ) : Type 0 
 
 -- 18 and 20 are refused after the checks, so that one that is refused before its first firing leaves the inputs in the ledger and all cells absent
 pub record OthersStart : Type 0 where
-  pub by_replay : (graph arrays inputs log ledger cells : List ℕ) → Bytes inputs → check graph arrays inputs [] (length ledger) (length cells) ≡ Passed
+  pub by_replay : (graph arrays inputs log ledger cells : List ℕ) → Bytes inputs → check graph arrays inputs [] (length ledger) (length cells) ≡ Ok tt
       → let x = replayed graph arrays inputs log (length ledger) (length cells) in (answer x).firings ≡ 0 → InputsWritten x inputs ledger cells
-  pub by_profile : (graph arrays inputs ledger cells : List ℕ) (lent : ℕ) → Bytes inputs → check_profile graph arrays inputs (length ledger) (length cells) lent ≡ Passed
+  pub by_profile : (graph arrays inputs ledger cells : List ℕ) (lent : ℕ) → Bytes inputs → check_profile graph arrays inputs (length ledger) (length cells) lent ≡ Ok tt
       → let x = (profiled graph arrays inputs (length ledger) (length cells) lent).result in (answer x).firings ≡ 0 → InputsWritten x inputs ledger cells
 
 -- 20 stops a replay before the record at its place, the number of the firings done: ledger and cells are as a replay of the records before it leaves them

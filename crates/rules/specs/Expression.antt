@@ -1,6 +1,6 @@
 -- 02, R-14, "From an expression to a graph", in its order: the records, the refusals, the value, the graph, what feeds it, and the claims, which are proved in
 -- proofs/Expression. Assumes nothing.
-use Rattle.std.specs.Prelude.{ℕ, zero, suc, ◌+◌, ◌-◌, ◌*◌, ◌/◌, ◌≤◌, ◌≡◌, Bool, not, ◌&&◌, ◌||◌, cond, List, [], ◌∷◌, ◌++◌, length, get_or, take, set, eqb, leb, ltb, ℤ, pos}
+use Rattle.std.specs.Prelude.{ℕ, zero, suc, ◌+◌, ◌-◌, ◌*◌, ◌/◌, ◌≤◌, ◌≡◌, Bool, not, ◌&&◌, ◌||◌, cond, List, [], ◌∷◌, ◌++◌, length, get_or, take, set, eqb, leb, ltb, ℤ, pos, Option, None, Some, Result, Ok, Err, ok_or}
 use Rattle.std.proofs.Math.Option.{some}
 use Rattle.std.specs.Int.{w32}
 use Rattle.std.proofs.Common.{SFits}
@@ -19,20 +19,13 @@ use Rattle.record.specs.GraphRecords as Graph
 use Rattle.record.specs.TokensAndTags.{root_of, capacity_of}
 use Rattle.record.specs.TokensAndTags as Tokens
 use Rattle.record.specs.Widths.{term_width, value_width, graph_width, cell_width}
-use Rattle.arithmetic.specs.declared.Computed.{Computed}
-use Rattle.arithmetic.specs.declared.Computed.TheVariants.{Value, OutOfRange}
 use Rattle.arithmetic.specs.Arithmetic.{compute_of}
 use Rattle.machine.specs.Machine.{live, End, completed, refused, Machine, Choice, at, look, run_by}
 use Rattle.machine.specs.Orders.{LawfulChoice}
+use Rattle.rules.specs.declared.answer.Fault.{Fault}
 use Rattle.rules.specs.declared.answer.Refusal.{Refusal}
 use Rattle.rules.specs.declared.answer.Refusal.TheVariants as Refusals
-use Rattle.rules.specs.declared.answer.Checked.{Checked}
-use Rattle.rules.specs.declared.answer.Checked.TheVariants.{Passed, Failed}
-use Rattle.rules.specs.declared.answer.Made.{Made}
-use Rattle.rules.specs.declared.answer.Made.TheVariants.{Records, Refused}
-use Rattle.rules.specs.declared.answer.Evaluated.{Evaluated}
-use Rattle.rules.specs.declared.answer.Evaluated.TheVariants as Evaluations
-use Rattle.rules.specs.Check.{demand, ◌and_then◌, any, in_turn}
+use Rattle.rules.specs.Check.{demand, ◌and_then◌, any, in_turn, Checked, fault_at}
 use Rattle.rules.specs.InstructionSet.{machine_of}
 use Rattle.rules.specs.Run.{first_state, ran_to, result}
 use Rattle.rules.specs.Orders.{Allowed}
@@ -100,10 +93,10 @@ abbrev pub arithmetic_of : (code : ℕ) → Arithmetic
 arithmetic_of code = get_or (Add ∷ Sub ∷ Mul ∷ Div ∷ Rem ∷ Lt ∷ Le ∷ Eq ∷ []) (code - 16) Add
 
 -- what is out of range stays so
-abbrev pub combined : Arithmetic → Computed → Computed → Computed
-combined o (Value a) (Value b) = compute_of o a b
-combined o (Value a) OutOfRange = OutOfRange
-combined o OutOfRange b = OutOfRange
+abbrev pub combined : Arithmetic → Option ℤ → Option ℤ → Option ℤ
+combined o (Some a) (Some b) = compute_of o a b
+combined o (Some a) None = None
+combined o None b = None
 
 abbrev pub count : (Term → Bool) → List Term → ℕ
 count f [] = 0
@@ -114,18 +107,18 @@ abbrev pub variable_number : List Term → (i : ℕ) → ℕ
 variable_number ts i = count is_variable (take i ts)
 
 -- the value of record i, which is below the bound: it falls with each name
-unfoldable pub value_below : (bound : ℕ) → List Term → List ℤ → (i : ℕ) → Computed
-value_below zero ts values i = OutOfRange
+unfoldable pub value_below : (bound : ℕ) → List Term → List ℤ → (i : ℕ) → Option ℤ
+value_below zero ts values i = None
 value_below (suc bound) ts values i =
     let t = term_at ts i in
-    cond (is_variable t) (Value (get_or values (variable_number ts i) (pos 0)))
+    cond (is_variable t) (Some (get_or values (variable_number ts i) (pos 0)))
     (combined (arithmetic_of t.kind) (value_below bound ts values t.left) (value_below bound ts values t.right))
 
-abbrev pub value_at : List Term → List ℤ → (i : ℕ) → Computed
+abbrev pub value_at : List Term → List ℤ → (i : ℕ) → Option ℤ
 value_at ts values i = value_below (suc i) ts values i
 
 -- that of the last record
-abbrev pub expression_value : List Term → List ℤ → Computed
+abbrev pub expression_value : List Term → List ℤ → Option ℤ
 expression_value ts values = value_at ts values (length ts - 1)
 
 -- ---- "The graph is a COPY for each variable, then the operations, both in record order, then one OUT; left goes to port 0"
@@ -207,16 +200,16 @@ check_made expression output =
     check_expression expression
     and_then demand (leb (graph_width * suc (length (expression_of expression))) output) Refusals.GraphTooLong 0
 
-abbrev pub made_of : Checked → (records : ℕ) → Made
-made_of Passed n = Records n
-made_of (Failed r place) n = Refused r place
+-- the number of the graph's records
+abbrev pub made_of : Checked → (records : ℕ) → Result ℕ Fault
+made_of c n = c and_then Ok n
 
 abbrev pub output_of : Checked → (graph : List Instruction) → (lent : List ℕ) → List ℕ
-output_of Passed g lent = written_over Graph.encode_instruction g lent
-output_of (Failed r place) g lent = lent
+output_of (Ok _) g lent = written_over Graph.encode_instruction g lent
+output_of (Err fault) g lent = lent
 
 -- what a function promises that makes the graph of an expression
-pub record MadeFrom (expression : List ℕ) (r : Made) (output output' : List ℕ) : Type 0 where
+pub record MadeFrom (expression : List ℕ) (r : Result ℕ Fault) (output output' : List ℕ) : Type 0 where
   pub answered : r ≡ made_of (check_made expression (length output)) (suc (length (expression_of expression)))
   pub output_left : output' ≡ output_of (check_made expression (length output)) (graph_for (expression_of expression)) output
 
@@ -231,20 +224,18 @@ check_values expression values =
     and_then demand (eqb values (count is_variable (expression_of expression) * value_width)) Refusals.BadStore 0
 
 -- "if each operation in it is in range and no divisor is 0, and otherwise [..] refused by 12"
-abbrev pub evaluated_of : Checked → Computed → Evaluated
-evaluated_of Passed (Value v) = Evaluations.Value v
-evaluated_of Passed OutOfRange = Evaluations.Refused Refusals.OutOfRange 0
-evaluated_of (Failed r place) x = Evaluations.Refused r place
+abbrev pub evaluated_of : Checked → Option ℤ → Result ℤ Fault
+evaluated_of c x = c and_then ok_or x (fault_at Refusals.OutOfRange 0)
 
 -- what a function promises that gives the value of an expression
-unfoldable pub evaluated : (expression values : List ℕ) → Evaluated
+unfoldable pub evaluated : (expression values : List ℕ) → Result ℤ Fault
 evaluated expression values = evaluated_of (check_values expression (length values)) (expression_value (expression_of expression) (variables_of values))
 
 -- ---- the claims
 
 -- of every expression that passed
 abbrev pub OfEvery : (List Term → Type 0) → Type 0
-OfEvery P = (expression : List ℕ) → check_expression expression ≡ Passed → P (expression_of expression)
+OfEvery P = (expression : List ℕ) → check_expression expression ≡ Ok tt → P (expression_of expression)
 
 -- as many values as the expression has variables, each of 32 signed bits
 pub record ValuesFor (ts : List Term) (values : List ℤ) : Type 0 where
@@ -263,9 +254,9 @@ module _ (ts : List Term) (capacity cells : ℕ) where
     pub tokens : length e.state.tokens ≡ count is_variable ts + length ts
 
   -- "if each operation in it is in range and no divisor is 0, and otherwise the run is refused by 12"
-  abbrev pub EvaluatesExpression : Computed → End Refusal Tag ℤ → Type 0
-  EvaluatesExpression (Value v) e = Received v e
-  EvaluatesExpression OutOfRange e = (place : ℕ) × (e.outcome ≡ refused Refusals.OutOfRange place)
+  abbrev pub EvaluatesExpression : Option ℤ → End Refusal Tag ℤ → Type 0
+  EvaluatesExpression (Some v) e = Received v e
+  EvaluatesExpression None e = (place : ℕ) × (e.outcome ≡ refused Refusals.OutOfRange place)
 
 -- "For all variable values and every firing order": with any choice that takes one of the enabled, and room for the tokens and the firings that it takes
 abbrev pub ExpressionsEvaluateBy : Type 0

@@ -1,16 +1,11 @@
 -- 01, "Firing": the operations as an instance of the machine. An effect goes by the tag and the operands alone: it does not look at ledger or cells.
 -- Refusals 10, 12 to 14 and 17 are here. Assumes nothing.
-use Rattle.std.specs.Prelude.{ℕ, zero, suc, ◌+◌, ◌-◌, ◌≡◌, Bool, ◌&&◌, ◌||◌, cond, List, [], ◌∷◌, map, length, get_or, ℤ, pos, negsuc, nat_abs, eqb, ltb}
+use Rattle.std.specs.Prelude.{ℕ, zero, suc, ◌+◌, ◌-◌, ◌≡◌, Bool, ◌&&◌, ◌||◌, cond, List, [], ◌∷◌, map, length, get_or, ℤ, pos, negsuc, nat_abs, eqb, ltb, Option, None, Some}
 use Rattle.std.proofs.Math.Decide.{ℕ_discrete}
 use Rattle.std.proofs.Common.{ap}
 use Rattle.record.specs.declared.tag.Tag.{Tag}
 use Rattle.record.specs.declared.array.NamedArray.{NamedArray}
-use Rattle.record.specs.declared.tag.Entered.{Entered}
-use Rattle.record.specs.declared.tag.Entered.TheVariants.{In, TooDeep}
-use Rattle.record.specs.declared.tag.Left.{Left}
-use Rattle.record.specs.declared.tag.Left.TheVariants.{To, NoCaller}
-use Rattle.record.specs.declared.tag.Next.{Next}
-use Rattle.record.specs.declared.tag.Next.TheVariants.{Is, Last}
+use Rattle.record.specs.declared.tag.Caller.{Caller}
 use Rattle.record.specs.declared.instruction.Destination.{Destination}
 use Rattle.record.specs.declared.instruction.Instruction.{Instruction}
 use Rattle.record.specs.declared.operation.Operation.{Operation}
@@ -19,8 +14,6 @@ use Rattle.record.specs.Paths.{is_root, decide_path}
 use Rattle.record.specs.TokensAndTags.{to_of}
 use Rattle.record.specs.Calls.{next_of, enter_of, leave_of}
 use Rattle.record.specs.GraphRecords.{destinations, operation_of, operands_of}
-use Rattle.arithmetic.specs.declared.Computed.{Computed}
-use Rattle.arithmetic.specs.declared.Computed.TheVariants.{Value, OutOfRange}
 use Rattle.arithmetic.specs.Arithmetic.{compute_of, eq_z}
 use Rattle.machine.specs.Machine.{Key, Effect, refuse, send, read, write, Machine, decide_both}
 use Rattle.rules.specs.declared.answer.Refusal.{Refusal}
@@ -45,23 +38,23 @@ all_under τ r = map (key_under τ) (destinations r)
 -- ---- operations
 
 -- 12: "result past 32 signed bits, or divisor 0"
-unfoldable pub send_computed : Computed → List (Key Tag) → EffectHere
-send_computed (Value v) keys = send v keys
-send_computed OutOfRange keys = refuse Refusals.OutOfRange
+unfoldable pub send_computed : Option ℤ → List (Key Tag) → EffectHere
+send_computed (Some v) keys = send v keys
+send_computed None keys = refuse Refusals.OutOfRange
 
 -- "SWITCH, port 0 to destination 1 if port 1 is not 0, else to destination 2"
 unfoldable pub side_of : ℤ → Instruction → Destination
 side_of control r = cond (eq_z control (pos 0)) r.second r.first
 
 -- "NEXT adds 1 to the iteration, 255 at most." 13: "NEXT at 255"
-unfoldable pub send_next : {W : Type 0} → Next → Instruction → W → EffectOver W
-send_next (Is τ) r v = send v (all_under τ r)
-send_next Last r v = refuse Refusals.Iteration
+unfoldable pub send_next : {W : Type 0} → Option Tag → Instruction → W → EffectOver W
+send_next (Some τ) r v = send v (all_under τ r)
+send_next None r v = refuse Refusals.Iteration
 
 -- ENTER "sends its value, one token, to destination 1". 14: "ENTER at four levels", with R-8 of 02 at eight
-unfoldable pub send_entered : {W : Type 0} → Entered → Instruction → W → EffectOver W
-send_entered (In τ) r v = send v (key_under τ r.first ∷ [])
-send_entered TooDeep r v = refuse Refusals.TooDeep
+unfoldable pub send_entered : {W : Type 0} → Option Tag → Instruction → W → EffectOver W
+send_entered (Some τ) r v = send v (key_under τ r.first ∷ [])
+send_entered None r v = refuse Refusals.TooDeep
 
 -- ENTER: "Destination 2, port 0, is the site's return instruction": that of the first ENTER of the site, and so of all. Instruction 0 stands for a site that
 -- no ENTER has: no path of a run names one (Callers)
@@ -75,9 +68,9 @@ unfoldable pub send_returned : {W : Type 0} → List Instruction → (instructio
 send_returned g i k τ v = cond (ltb (i + k) (length g)) (send v (record { tag = to_of τ (i + k); port = 0 } ∷ [])) (refuse Refusals.NoReturn)
 
 -- at path 0 LEAVE never fires
-unfoldable pub send_left : {W : Type 0} → List Instruction → Left → Instruction → W → EffectOver W
-send_left g (To site τ) r v = send_returned g (return_of site g) (nat_abs r.constant) τ v
-send_left g NoCaller r v = send v []
+unfoldable pub send_left : {W : Type 0} → List Instruction → Option Caller → Instruction → W → EffectOver W
+send_left g (Some c) r v = send_returned g (return_of c.site g) (nat_abs r.constant) c.tag v
+send_left g None r v = send v []
 
 -- 10: "cell number outside 0 to count minus 1"
 unfoldable pub on_cell : {W : Type 0} → (cells : ℕ) → ℤ → (ℕ → EffectOver W) → EffectOver W

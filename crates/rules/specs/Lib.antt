@@ -1,5 +1,6 @@
 -- The definitions of 01's rules and of 02's requests. Assumes nothing.
 pub mod Answer
+pub mod Done
 pub mod Check
 pub mod InstructionSet
 pub mod Run

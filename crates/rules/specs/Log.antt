@@ -1,6 +1,6 @@
 -- 02, R-7, "Firing logs": the log that a run writes and the replay of a log, over bytes; and that a replay gives the run again and that logs agree, proved in
 -- proofs/Log and proofs/Replay. Assumes nothing.
-use Rattle.std.specs.Prelude.{ℕ, ◌+◌, ◌-◌, ◌*◌, ◌/◌, ◌%◌, ◌≡◌, Bool, ◌&&◌, ◌||◌, length, take, ℤ, eqb, leb}
+use Rattle.std.specs.Prelude.{ℕ, ◌+◌, ◌-◌, ◌*◌, ◌/◌, ◌%◌, ◌≡◌, Bool, ◌&&◌, ◌||◌, length, take, ℤ, eqb, leb, Ok, Err}
 use Rattle.std.proofs.Math.Option.{Option}
 use mathlib.Core.List.{List, [], Permᴰ}
 use Rattle.record.specs.declared.tag.Tag.{Tag}
@@ -18,10 +18,8 @@ use Rattle.machine.specs.Replay.{replay}
 use Rattle.rules.specs.declared.answer.Refusal.{Refusal}
 use Rattle.rules.specs.declared.answer.Refusal.TheVariants.{BadStore, NotEnabled}
 use Rattle.rules.specs.declared.answer.Answer.{Answer}
-use Rattle.rules.specs.declared.answer.Checked.{Checked}
-use Rattle.rules.specs.declared.answer.Checked.TheVariants.{Passed, Failed}
 use Rattle.rules.specs.Answer.{values_of}
-use Rattle.rules.specs.Check.{demand, ◌and_then◌, check_stores, check_inputs, check, check_with}
+use Rattle.rules.specs.Check.{demand, ◌and_then◌, check_stores, check_inputs, check, check_with, Checked}
 use Rattle.rules.specs.InstructionSet.{machine_of}
 use Rattle.rules.specs.Run.{first_state, picks_of, Result, refused_at_once, ran_to, unless_failed, answer, ledger_after, cells_after}
 use Rattle.rules.specs.Orders.{result_outcome}
@@ -54,8 +52,8 @@ pub record LogResult : Type 0 where
   pub log : List Tag
 
 unfoldable pub log_unless_failed : Checked → End Refusal Tag ℤ → List Tag → LogResult
-log_unless_failed Passed e log = record { result = ran_to e; log = log }
-log_unless_failed (Failed r place) e log = record { result = refused_at_once r place; log = [] }
+log_unless_failed (Ok _) e log = record { result = ran_to e; log = log }
+log_unless_failed (Err fault) e log = record { result = refused_at_once fault.refusal fault.place; log = [] }
 
 -- ledger, cells and log by their lengths in bytes
 unfoldable pub logged : (graph arrays inputs picks : List ℕ) → (budget ledger cells lent : ℕ) → LogResult

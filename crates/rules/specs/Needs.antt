@@ -1,6 +1,6 @@
 -- 02, R-3, "What a graph will need, before it runs", in its order: what is reached, the bounds, the refusals, and the claims, which are proved in proofs/Needs.
 -- Assumes nothing.
-use Rattle.std.specs.Prelude.{ℕ, zero, suc, ◌+◌, ◌≤◌, ◌≡◌, Bool, true, false, not, ◌&&◌, ◌||◌, cond, List, [], ◌∷◌, length, get_or, eqb, leb}
+use Rattle.std.specs.Prelude.{ℕ, zero, suc, ◌+◌, ◌≤◌, ◌≡◌, Bool, true, false, not, ◌&&◌, ◌||◌, cond, List, [], ◌∷◌, length, get_or, eqb, leb, Result, Ok}
 use Rattle.record.specs.declared.token.Token.{Token}
 use Rattle.record.specs.declared.instruction.Instruction.{Instruction}
 use Rattle.buffer.specs.Rows.{all_rows}
@@ -9,13 +9,11 @@ use Rattle.record.specs.TokensAndTags.{root_of, stands_at}
 use Rattle.record.specs.TokensAndTags as Tokens
 use Rattle.record.specs.Widths.{token_width}
 use Rattle.machine.specs.Orders.{Quiescent}
+use Rattle.rules.specs.declared.answer.Fault.{Fault}
 use Rattle.rules.specs.declared.answer.Refusal.TheVariants.{BadInput, NotLoopFree}
-use Rattle.rules.specs.declared.answer.Checked.{Checked}
-use Rattle.rules.specs.declared.answer.Checked.TheVariants.{Passed, Failed}
 use Rattle.rules.specs.declared.answer.Needs.{Needs}
-use Rattle.rules.specs.declared.answer.Needs.TheVariants.{AtMost, Refused}
 use Rattle.rules.specs.Answer.{values_needed}
-use Rattle.rules.specs.Check.{demand, ◌and_then◌, any, in_turn, instruction_at, operands_at, check_graph, check_stores, good_input}
+use Rattle.rules.specs.Check.{demand, ◌and_then◌, any, in_turn, instruction_at, operands_at, check_graph, check_stores, good_input, Checked}
 use Rattle.rules.specs.Run.{result, answer}
 use Rattle.rules.specs.Orders.{result_outcome}
 
@@ -93,18 +91,17 @@ check_needs graph inputs =
 abbrev pub inputs_of : List ℕ → List Token
 inputs_of inputs = all_rows token_width Tokens.decode_token inputs
 
-abbrev pub needs_unless_refused : Checked → Needs → Needs
-needs_unless_refused Passed x = x
-needs_unless_refused (Failed r p) x = Refused r p
+abbrev pub needs_at_most : (firings tokens : ℕ) → Result Needs Fault
+needs_at_most firings tokens = Ok (record { firings = firings; tokens = tokens })
 
-unfoldable pub needs : (graph inputs : List ℕ) → Needs
+unfoldable pub needs : (graph inputs : List ℕ) → Result Needs Fault
 needs graph inputs =
     let ts = inputs_of inputs in
     let g = graph_of graph in
-    needs_unless_refused (check_needs graph inputs) (AtMost (total ts g firings_needed) (length ts + total ts g outputs_needed))
+    check_needs graph inputs and_then needs_at_most (total ts g firings_needed) (length ts + total ts g outputs_needed)
 
 -- what `bounds` promises: its answer, also in 01's numbers
-pub record Bounded (x r : Needs) : Type 0 where
+pub record Bounded (x r : Result Needs Fault) : Type 0 where
   pub answered : r ≡ x
   pub numbers : values_needed r ≡ values_needed x
 
@@ -120,11 +117,11 @@ NoSwitchOrFetch graph inputs = (i : ℕ) → reached (inputs_of inputs) (graph_o
 
 -- "No completed or hung run exceeds either", and no other
 abbrev pub NeverExceeded : Type 0
-NeverExceeded = (graph arrays inputs picks : List ℕ) (budget ledger cells firings tokens : ℕ) → needs graph inputs ≡ AtMost firings tokens
+NeverExceeded = (graph arrays inputs picks : List ℕ) (budget ledger cells firings tokens : ℕ) → needs graph inputs ≡ needs_at_most firings tokens
     → ((answer (result graph arrays inputs picks budget ledger cells)).firings ≤ firings) × ((answer (result graph arrays inputs picks budget ledger cells)).tokens ≤ tokens)
 
 -- "and both are exact where no SWITCH or FETCH is reached"
 abbrev pub Exact : Type 0
-Exact = (graph arrays inputs picks : List ℕ) (budget ledger cells firings tokens : ℕ) → needs graph inputs ≡ AtMost firings tokens → NoSwitchOrFetch graph inputs
+Exact = (graph arrays inputs picks : List ℕ) (budget ledger cells firings tokens : ℕ) → needs graph inputs ≡ needs_at_most firings tokens → NoSwitchOrFetch graph inputs
     → Quiescent (result_outcome (result graph arrays inputs picks budget ledger cells))
     → ((answer (result graph arrays inputs picks budget ledger cells)).firings ≡ firings) × ((answer (result graph arrays inputs picks budget ledger cells)).tokens ≡ tokens)

@@ -1,6 +1,6 @@
 -- Demand 3 over the rules, in tokens and cells; listing/specs/Demand3 says it of bytes. 01, "Any two orders": one claim about two whole runs over one graph and one list of inputs, for every two lists of picks.
 -- The statement; it is proved in proofs/Orders. Assumes nothing.
-use Rattle.std.specs.Prelude.{ℕ, ◌/◌, ◌≤◌, ◌≡◌, true, ◌↔◌, length}
+use Rattle.std.specs.Prelude.{ℕ, ◌/◌, ◌≤◌, ◌≡◌, true, ◌↔◌, length, Ok}
 use mathlib.Core.List.{List, [], ◌∷◌, map, Permᴰ}
 use Rattle.record.specs.declared.token.Token.{Token}
 use Rattle.record.specs.declared.cell.Cell.{Cell}
@@ -10,7 +10,6 @@ use Rattle.record.specs.Widths.{token_width, cell_width, pick_width}
 use Rattle.machine.specs.Machine.{Outcome, refused}
 use Rattle.machine.specs.Orders.{Completed, Hung, Quiescent, Spent, Refused}
 use Rattle.rules.specs.declared.answer.Refusal.{Refusal}
-use Rattle.rules.specs.declared.answer.Checked.TheVariants.{Passed}
 use Rattle.rules.specs.Check.{check_graph, most_cells}
 use Rattle.rules.specs.Run.{token_record, cell_record, Result, refused_at_once, ran_to, result, answer}
 
@@ -67,7 +66,7 @@ pub record Allowed (picks : List ℕ) (ledger cells : ℕ) : Type 0 where
 -- 01 asks for less: "neither run is refused by 7 for a buffer other than the inputs". Lengths are looked at only once the graph has passed its check: a graph
 -- that fails is refused in every run, and so are inputs that are not whole records
 abbrev pub NotForOtherBuffers : (graph inputs picks : List ℕ) (ledger cells : ℕ) → Type 0
-NotForOtherBuffers graph inputs picks ledger cells = check_graph graph ≡ Passed → whole token_width most_tokens (length inputs) ≡ true → Allowed picks ledger cells
+NotForOtherBuffers graph inputs picks ledger cells = check_graph graph ≡ Ok tt → whole token_width most_tokens (length inputs) ≡ true → Allowed picks ledger cells
 
 -- R-10: "Orders are compared [..] under one table." "Whatever graph and inputs are lent, and whichever two lists of picks order the firings, with equal ledger capacity and cell count, a budget of 2,048"
 abbrev pub AnyTwoOrdersOfResults : Type 0

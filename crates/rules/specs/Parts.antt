@@ -1,5 +1,5 @@
 -- 02, R-13: what is claimed of runs that stop and carry on, in bytes. The statements; they are proved in proofs/: Resumed, Parts. Assumes nothing.
-use Rattle.std.specs.Prelude.{ℕ, ◌+◌, ◌*◌, ◌≡◌, true, List, [], ◌∷◌, length, take, drop}
+use Rattle.std.specs.Prelude.{ℕ, ◌+◌, ◌*◌, ◌≡◌, true, List, [], ◌∷◌, length, take, drop, Ok}
 use Rattle.number.specs.Number.{Bytes}
 use Rattle.buffer.specs.Rows.{whole}
 use Rattle.record.specs.TokensAndTags.{most_tokens}
@@ -7,7 +7,6 @@ use Rattle.record.specs.Widths.{token_width, pick_width}
 use Rattle.machine.specs.Saved.{sum}
 use Rattle.rules.specs.declared.answer.Outcome.{Outcome}
 use Rattle.rules.specs.declared.answer.Outcome.TheVariants as Outcomes
-use Rattle.rules.specs.declared.answer.Checked.TheVariants.{Passed}
 use Rattle.rules.specs.Check.{check_graph}
 use Rattle.rules.specs.Run.{Result, refused_at_once, ran_to, result, answer, ledger_after, cells_after}
 use Rattle.rules.specs.Runs.{LeftByRun}
@@ -72,6 +71,6 @@ pub record LeavesTaken : Type 0 where
 -- state: if it is not taken, both are refused. Neither is refused by 7 for its picks
 abbrev pub AnyTwoOrdersFrom : Type 0
 AnyTwoOrdersFrom = (graph arrays picks picks' ledger ledger' cells : List ℕ) (firings tokens : ℕ)
-    → (check_graph graph ≡ Passed → Allowed picks (length ledger) (length cells)) → (check_graph graph ≡ Passed → Allowed picks' (length ledger') (length cells))
+    → (check_graph graph ≡ Ok tt → Allowed picks (length ledger) (length cells)) → (check_graph graph ≡ Ok tt → Allowed picks' (length ledger') (length cells))
     → length ledger ≡ length ledger' → take (tokens * token_width) ledger ≡ take (tokens * token_width) ledger'
     → ResultsAgree (carried graph arrays picks 2048 ledger cells firings tokens) (carried graph arrays picks' 2048 ledger' cells firings tokens)

@@ -1,6 +1,6 @@
 -- 02, R-1, "Profiles for the plotter": a run by ideal steps over bytes, what it answers, and what it leaves in ledger, cells and profile; and that it ends as
 -- every order does, proved in proofs/Profile. Assumes nothing.
-use Rattle.std.specs.Prelude.{ℕ, ◌*◌, ◌/◌, ◌%◌, ◌≤◌, ◌≡◌, List, [], ◌++◌, length, ℤ, eqb}
+use Rattle.std.specs.Prelude.{ℕ, ◌*◌, ◌/◌, ◌%◌, ◌≤◌, ◌≡◌, List, [], ◌++◌, length, ℤ, eqb, Ok, Err}
 use Rattle.record.specs.declared.tag.Tag.{Tag}
 use Rattle.number.specs.Number.{bytes16}
 use Rattle.buffer.specs.Rows.{written_over}
@@ -14,10 +14,8 @@ use Rattle.rules.specs.declared.answer.Refusal.{Refusal}
 use Rattle.rules.specs.declared.answer.Refusal.TheVariants.{BadStore, ProfileFull}
 use Rattle.rules.specs.declared.answer.Outcome.TheVariants as Outcomes
 use Rattle.rules.specs.declared.answer.Profiled.{Profiled}
-use Rattle.rules.specs.declared.answer.Checked.{Checked}
-use Rattle.rules.specs.declared.answer.Checked.TheVariants.{Passed, Failed}
 use Rattle.rules.specs.Answer.{values_of}
-use Rattle.rules.specs.Check.{demand, ◌and_then◌, check_stores, check_inputs, check_with}
+use Rattle.rules.specs.Check.{demand, ◌and_then◌, check_stores, check_inputs, check_with, Checked}
 use Rattle.rules.specs.InstructionSet.{machine_of}
 use Rattle.rules.specs.Run.{first_state, Result, refused_at_once, ran_to, result, answer, ledger_after, cells_after}
 use Rattle.rules.specs.Orders.{result_outcome, AlikeResults, Allowed}
@@ -40,8 +38,8 @@ pub record ProfileResult : Type 0 where
   pub records : List StepRecord
 
 unfoldable pub profile_unless_failed : Checked → Profile Refusal Tag ℤ → ProfileResult
-profile_unless_failed Passed p = record { result = ran_to p.ended; records = p.records }
-profile_unless_failed (Failed r place) p = record { result = refused_at_once r place; records = [] }
+profile_unless_failed (Ok _) p = record { result = ran_to p.ended; records = p.records }
+profile_unless_failed (Err fault) p = record { result = refused_at_once fault.refusal fault.place; records = [] }
 
 -- ledger, cells and profile by their lengths in bytes
 unfoldable pub profiled : (graph arrays inputs : List ℕ) → (ledger cells lent : ℕ) → ProfileResult

@@ -2,8 +2,7 @@
 -- 02, R-11, over handles: a token's 32-bit value is the number of a range in a table, so that the engine, which looks at no value, stays as it is. One new range for
 -- each input and at most one for each firing; range 0 is that of the single value 0, which is what a signal and an absent cell hold. All but CONST and the
 -- arithmetic is the plain effect, with a decided control and a single cell put in their places. Assumes nothing.
-use Rattle.std.specs.Prelude.{ℕ, suc, cond, List, [], ◌∷◌, length, get_or, replicate, ℤ, pos, nat_abs}
-use Rattle.std.proofs.Math.Option.{Option, none, some}
+use Rattle.std.specs.Prelude.{ℕ, suc, cond, List, [], ◌∷◌, length, get_or, replicate, ℤ, pos, nat_abs, Option, None, Some}
 use Rattle.record.specs.declared.tag.Tag.{Tag}
 use Rattle.record.specs.declared.array.NamedArray.{NamedArray}
 use Rattle.record.specs.declared.instruction.Instruction.{Instruction}
@@ -37,14 +36,14 @@ as_is e = record { added = []; asked = e }
 
 -- a new range, at the table's end; 12 if there is none
 unfoldable pub send_new : List Range → Option Range → List (Key Tag) → StepHere
-send_new table (some r) keys = record { added = r ∷ []; asked = send (pos (length table)) keys }
-send_new table none keys = as_is (refuse Refusals.OutOfRange)
+send_new table (Some r) keys = record { added = r ∷ []; asked = send (pos (length table)) keys }
+send_new table None keys = as_is (refuse Refusals.OutOfRange)
 
 unfoldable pub range_step : Operation → List Instruction → List NamedArray → (cells : ℕ) → List Range → Tag → Instruction → (a b : ℤ) → (keys : List (Key Tag)) → StepHere
 range_step Operations.Copy g table cells t τ r a b keys = as_is (effect_of Operations.Copy g table cells τ r a b keys)
 range_step Operations.Sink g table cells t τ r a b keys = as_is (effect_of Operations.Sink g table cells τ r a b keys)
 range_step Operations.Out g table cells t τ r a b keys = as_is (effect_of Operations.Out g table cells τ r a b keys)
-range_step Operations.Const g table cells t τ r a b keys = send_new t (some (single r.constant)) keys
+range_step Operations.Const g table cells t τ r a b keys = send_new t (Some (single r.constant)) keys
 range_step Operations.Switch g table cells t τ r a b keys = as_is (cond (is_undecided (meaning t b)) (refuse Refusals.Undecided) (effect_of Operations.Switch g table cells τ r a (meaning t b).low keys))
 range_step Operations.Gate g table cells t τ r a b keys = as_is (effect_of Operations.Gate g table cells τ r a b keys)
 range_step Operations.Next g table cells t τ r a b keys = as_is (effect_of Operations.Next g table cells τ r a b keys)

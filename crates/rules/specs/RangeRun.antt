@@ -1,6 +1,6 @@
 -- 02, R-11: a range run over bytes, what it answers and what it leaves. "Here every token and cell record has a low and a high value, the high in 4 further bytes at
 -- its end, the cell number in both if deferred." Without its end each is the plain record of the low value. Assumes nothing.
-use Rattle.std.specs.Prelude.{ℕ, ◌/◌, ◌≡◌, Bool, not, ◌&&◌, List, ◌++◌, length, take, replicate, leb, ℤ}
+use Rattle.std.specs.Prelude.{ℕ, ◌/◌, ◌≡◌, Bool, not, ◌&&◌, List, ◌++◌, length, take, replicate, leb, ℤ, Ok, Err}
 use Rattle.std.specs.Int.Signed.{le_z}
 use Rattle.record.specs.declared.tag.Tag.{Tag}
 use Rattle.record.specs.declared.token.Token as Record
@@ -23,10 +23,8 @@ use Rattle.rules.specs.declared.answer.Refusal.{Refusal}
 use Rattle.rules.specs.declared.answer.Refusal.TheVariants.{BadInput, BadStore, LedgerFull, SecondToken, Undecided}
 use Rattle.rules.specs.declared.answer.Outcome.TheVariants as Outcomes
 use Rattle.rules.specs.declared.answer.Answer.{Answer}
-use Rattle.rules.specs.declared.answer.Checked.{Checked}
-use Rattle.rules.specs.declared.answer.Checked.TheVariants.{Passed, Failed}
 use Rattle.rules.specs.Answer.{values_of}
-use Rattle.rules.specs.Check.{demand, ◌and_then◌, in_turn, good_input, second_input, most_cells, check_with}
+use Rattle.rules.specs.Check.{demand, ◌and_then◌, in_turn, good_input, second_input, most_cells, check_with, Checked}
 use Rattle.rules.specs.Run.{picks_of, outcome_of}
 use Rattle.rules.specs.Held.{held_in}
 use Rattle.rules.specs.Bounded.{and_bound}
@@ -109,8 +107,8 @@ pub data RangeResult : Type 0 where
   ran_to : End Refusal Tag Range → RangeResult
 
 unfoldable pub ranges_unless_failed : Checked → RangeResult → RangeResult
-ranges_unless_failed Passed x = x
-ranges_unless_failed (Failed r p) x = refused_at_once r p
+ranges_unless_failed (Ok _) x = x
+ranges_unless_failed (Err fault) x = refused_at_once fault.refusal fault.place
 
 -- ledger and cells by their lengths in bytes; bound 0 is none
 unfoldable pub range_result : (graph arrays inputs picks : List ℕ) → (budget bound ledger cells : ℕ) → RangeResult

@@ -1,7 +1,6 @@
 -- 02, R-11, "Inputs known only between limits": the operations over ranges as an instance of the machine. What differs from 01's table: CONST sends a single
 -- value, the arithmetic is that of ranges, and refusal 23 comes where control or cell is undecided. Assumes nothing.
-use Rattle.std.specs.Prelude.{ℕ, Bool, not, ◌&&◌, cond, List, [], ◌∷◌, ℤ, pos, nat_abs}
-use Rattle.std.proofs.Math.Option.{Option, none, some}
+use Rattle.std.specs.Prelude.{ℕ, Bool, not, ◌&&◌, cond, List, [], ◌∷◌, ℤ, pos, nat_abs, Option, None, Some}
 use Rattle.record.specs.declared.tag.Tag.{Tag}
 use Rattle.record.specs.declared.array.NamedArray.{NamedArray}
 use Rattle.record.specs.declared.instruction.Instruction.{Instruction}
@@ -22,8 +21,8 @@ RangeEffect = EffectOver Range
 
 -- 12: "if an outcome is out of range or the divisor's range holds 0"
 unfoldable pub send_range : Option Range → List (Key Tag) → RangeEffect
-send_range (some r) keys = send r keys
-send_range none keys = refuse Refusals.OutOfRange
+send_range (Some r) keys = send r keys
+send_range None keys = refuse Refusals.OutOfRange
 
 -- 23: "a SWITCH control that may be zero or not"
 unfoldable pub is_undecided : Range → Bool

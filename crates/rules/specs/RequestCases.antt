@@ -1,12 +1,13 @@
 -- Worked cases of 02: profiles (R-1), what graphs will need (R-3), logs and replays (R-7), named arrays (R-10). They are part of the table in Cases. Assumes nothing.
-use Rattle.std.specs.Prelude.{ℕ, List, [], ◌∷◌, ◌++◌, replicate, ℤ, pos, negsuc}
+use Rattle.std.specs.Prelude.{ℕ, List, [], ◌∷◌, ◌++◌, replicate, ℤ, pos, negsuc, Err}
 use Rattle.record.specs.declared.tag.Tag.{Tag}
 use Rattle.number.specs.Number.{bytes16}
 use Rattle.machine.specs.Steps.{StepRecord}
 use Rattle.machine.specs.Machine.{Content, live, spent, deferred, Token, waiting, present}
 use Rattle.rules.specs.declared.answer.Refusal.TheVariants.{BadInput, BadStore, NotLoopFree}
-use Rattle.rules.specs.declared.answer.Needs.TheVariants.{AtMost, Refused}
 use Rattle.rules.specs.Answer.{Values}
+use Rattle.rules.specs.Check.{fault_at}
+use Rattle.rules.specs.Needs.{needs_at_most}
 use Rattle.rules.specs.CaseRows.{to0, to1, to2, root, input, values, completed, spent_word, hung, binary, operand_inputs, NumberedCell, Case, cell, running, naming, profiling, logging, replaying, needing}
 
 -- ---- R-1
@@ -99,25 +100,25 @@ vector_sum =
 abbrev pub sized : List Case
 sized =
     -- the printed example; without its second input
-    needing (binary 16) (operand_inputs (pos 7) (negsuc 8)) (AtMost 1 3)
-    ∷ needing (binary 16) (input 0 0 (pos 7)) (AtMost 0 1)
+    needing (binary 16) (operand_inputs (pos 7) (negsuc 8)) (needs_at_most 1 3)
+    ∷ needing (binary 16) (input 0 0 (pos 7)) (needs_at_most 0 1)
     -- a SWITCH reaches both sides and counts one output: a run fires one COPY less
-    ∷ needing two_sides (operand_inputs (pos 7) (pos 0)) (AtMost 3 5)
+    ∷ needing two_sides (operand_inputs (pos 7) (pos 0)) (needs_at_most 3 5)
     ∷ running two_sides (operand_inputs (pos 7) (pos 0)) [] 2048 2048 8 (values completed 2 4 0)
     (root 0 0 (spent (pos 7)) ∷ root 0 1 (spent (pos 0)) ∷ root 2 0 (spent (pos 7)) ∷ root 4 0 (live (pos 7)) ∷ [])
     []
-    ∷ needing vector_sum (input 0 0 (pos 0) ++ input 2 0 (pos 2) ++ input 5 0 (pos 1) ++ input 7 0 (pos 3)) (AtMost 10 15)
+    ∷ needing vector_sum (input 0 0 (pos 0) ++ input 2 0 (pos 2) ++ input 5 0 (pos 1) ++ input 7 0 (pos 3)) (needs_at_most 10 15)
     -- the second element is not reached without its index
-    ∷ needing vector_sum (input 0 0 (pos 0) ++ input 2 0 (pos 2) ++ input 7 0 (pos 3)) (AtMost 6 9)
+    ∷ needing vector_sum (input 0 0 (pos 0) ++ input 2 0 (pos 2) ++ input 7 0 (pos 3)) (needs_at_most 6 9)
     -- ADD that waits for its own output; two COPYs in a circle, of which every run is refused by 9
-    ∷ needing (to2 16 (pos 0) 1 0 0 1 ++ to0 3 (pos 0)) (input 0 0 (pos 7)) (AtMost 0 1)
-    ∷ needing (to1 1 (pos 0) 0 1 ++ to1 1 (pos 0) 0 0) (input 0 0 (pos 7)) (AtMost 2 3)
+    ∷ needing (to2 16 (pos 0) 1 0 0 1 ++ to0 3 (pos 0)) (input 0 0 (pos 7)) (needs_at_most 0 1)
+    ∷ needing (to1 1 (pos 0) 0 1 ++ to1 1 (pos 0) 0 0) (input 0 0 (pos 7)) (needs_at_most 2 3)
     -- 9 is not tested
-    ∷ needing (to1 1 (pos 0) 0 1 ++ to0 3 (pos 0)) (input 0 0 (pos 7) ++ input 0 0 (pos 8)) (AtMost 1 3)
+    ∷ needing (to1 1 (pos 0) 0 1 ++ to0 3 (pos 0)) (input 0 0 (pos 7) ++ input 0 0 (pos 8)) (needs_at_most 1 3)
     -- 19 at the first NEXT, ENTER or LEAVE, reached or not; 6 and 7 come before it
-    ∷ needing (to1 1 (pos 0) 0 1 ++ to1 7 (pos 0) 0 2 ++ to0 9 (pos 0)) [] (Refused NotLoopFree 1)
-    ∷ needing (to1 7 (pos 0) 0 1 ++ to0 3 (pos 0)) (input 0 0 (pos 7) ++ input 0 1 (pos 7)) (Refused BadInput 1)
-    ∷ needing (to1 7 (pos 0) 0 1 ++ to0 3 (pos 0)) (0 ∷ []) (Refused BadStore 0)
+    ∷ needing (to1 1 (pos 0) 0 1 ++ to1 7 (pos 0) 0 2 ++ to0 9 (pos 0)) [] (Err (fault_at NotLoopFree 1))
+    ∷ needing (to1 7 (pos 0) 0 1 ++ to0 3 (pos 0)) (input 0 0 (pos 7) ++ input 0 1 (pos 7)) (Err (fault_at BadInput 1))
+    ∷ needing (to1 7 (pos 0) 0 1 ++ to0 3 (pos 0)) (0 ∷ []) (Err (fault_at BadStore 0))
     ∷ []
 
 -- ---- R-10, named arrays
@@ -169,5 +170,5 @@ named =
     ∷ bad_array (array 4 3) (input 0 1 (pos 7)) (pos 0) 22 0
     ∷ bad_array (array 4 2) (input 0 1 (pos 7)) (pos 1) 6 0
     -- the bounds let the constant by
-    ∷ needing (to0 11 (pos 9)) (operand_inputs (pos 1) (pos 40)) (AtMost 1 2)
+    ∷ needing (to0 11 (pos 9)) (operand_inputs (pos 1) (pos 40)) (needs_at_most 1 2)
     ∷ []

@@ -1,6 +1,6 @@
 -- 02, R-5: "A run in which no token comes to such a LEAVE keeps its answer". The machine before R-5, and the statement; it is proved in proofs/RootLeave.
 -- Assumes nothing.
-use Rattle.std.specs.Prelude.{ℕ, ◌≡◌, Bool, false, ◌&&◌, cond, ◌⊎◌, List, ℤ, eqb}
+use Rattle.std.specs.Prelude.{ℕ, ◌≡◌, Bool, false, ◌&&◌, cond, ◌⊎◌, List, ℤ, eqb, Ok}
 use Rattle.record.specs.declared.tag.Tag.{Tag}
 use Rattle.record.specs.declared.array.NamedArray.{NamedArray}
 use Rattle.record.specs.declared.instruction.Instruction.{Instruction}
@@ -10,7 +10,6 @@ use Rattle.record.specs.GraphRecords.{operands_of, graph_of}
 use Rattle.machine.specs.Machine.{Token, refuse, Machine, run}
 use Rattle.machine.specs.Agreement.{with_instructions}
 use Rattle.rules.specs.declared.answer.Refusal.{Refusal}
-use Rattle.rules.specs.declared.answer.Checked.TheVariants.{Passed}
 use Rattle.rules.specs.Check.{instruction_at, check_graph, check_inputs}
 use Rattle.rules.specs.InstructionSet.{EffectHere, effect_in, machine_of}
 use Rattle.rules.specs.Run.{first_state}
@@ -38,7 +37,7 @@ NoneAtRootLeave g ts = All (λ t. is_root_leave g t.key.tag ≡ false) ts
 
 -- the run as it was and as it is, where no token comes to such a LEAVE in the one or in the other
 abbrev pub KeepsAnswer : Type 0
-KeepsAnswer = (graph inputs : List ℕ) (table : List NamedArray) (capacity cells : ℕ) → check_graph graph ≡ Passed → check_inputs (graph_of graph) capacity inputs ≡ Passed
+KeepsAnswer = (graph inputs : List ℕ) (table : List NamedArray) (capacity cells : ℕ) → check_graph graph ≡ Ok tt → check_inputs (graph_of graph) capacity inputs ≡ Ok tt
     → (word : Refusal) (budget : ℕ) (picks : List ℕ)
     → NoneAtRootLeave (graph_of graph) (run (machine_at_root_leave word (graph_of graph) table capacity cells) budget picks (first_state inputs cells)).state.tokens
     ⊎ NoneAtRootLeave (graph_of graph) (run (machine_of (graph_of graph) table capacity cells) budget picks (first_state inputs cells)).state.tokens

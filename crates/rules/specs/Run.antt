@@ -1,5 +1,5 @@
 -- 01, "Firing" and "The answer and the refusals": a run over bytes, what it answers, and what it leaves in ledger and cells. Assumes nothing.
-use Rattle.std.specs.Prelude.{ℕ, ◌/◌, ◌≡◌, List, map, length, replicate, ℤ}
+use Rattle.std.specs.Prelude.{ℕ, ◌/◌, ◌≡◌, List, map, length, replicate, ℤ, Ok, Err}
 use Rattle.record.specs.declared.tag.Tag.{Tag}
 use Rattle.record.specs.declared.token.Token as Record
 use Rattle.record.specs.declared.token.Content as RecordContent
@@ -19,10 +19,8 @@ use Rattle.rules.specs.declared.answer.Refusal.{Refusal}
 use Rattle.rules.specs.declared.answer.Outcome as AnswerOutcome
 use Rattle.rules.specs.declared.answer.Outcome.TheVariants as Outcomes
 use Rattle.rules.specs.declared.answer.Answer.{Answer}
-use Rattle.rules.specs.declared.answer.Checked.{Checked}
-use Rattle.rules.specs.declared.answer.Checked.TheVariants.{Passed, Failed}
 use Rattle.rules.specs.Answer.{values_of}
-use Rattle.rules.specs.Check.{check}
+use Rattle.rules.specs.Check.{check, Checked}
 use Rattle.rules.specs.InstructionSet.{machine_of}
 
 -- ---- tokens and cells of records, and of the machine
@@ -69,8 +67,8 @@ pub data Result : Type 0 where
   ran_to : End Refusal Tag ℤ → Result
 
 unfoldable pub unless_failed : Checked → Result → Result
-unless_failed Passed x = x
-unless_failed (Failed r p) x = refused_at_once r p
+unless_failed (Ok _) x = x
+unless_failed (Err fault) x = refused_at_once fault.refusal fault.place
 
 -- ledger and cells by their lengths in bytes
 unfoldable pub result : (graph arrays inputs picks : List ℕ) → (budget ledger cells : ℕ) → Result

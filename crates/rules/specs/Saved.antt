@@ -1,9 +1,8 @@
 -- 02, R-13, "Stop here and carry on tomorrow": what a saved state is, what is asked of it, and a run from there. That the test says what 02 lists (`TakenExactly`) is proved in proofs/Saved. Assumes nothing.
-use Rattle.std.specs.Prelude.{ℕ, zero, suc, ◌/◌, ◌<◌, ◌≡◌, ◌↔◌, Bool, true, false, ◌&&◌, List, [], map, ltb, length, ℤ, pos}
+use Rattle.std.specs.Prelude.{ℕ, zero, suc, ◌/◌, ◌<◌, ◌≡◌, ◌↔◌, Bool, true, false, ◌&&◌, List, [], Option, Some, None, map, ltb, length, ℤ, pos, Ok}
 use Rattle.record.specs.declared.tag.Tag.{Tag}
 use Rattle.record.specs.declared.array.NamedArray.{NamedArray}
-use Rattle.record.specs.declared.tag.Left.{Left}
-use Rattle.record.specs.declared.tag.Left.TheVariants.{To, NoCaller}
+use Rattle.record.specs.declared.tag.Caller.{Caller}
 use Rattle.record.specs.declared.instruction.Instruction.{Instruction}
 use Rattle.buffer.specs.Rows.{All, rows, all_rows}
 use Rattle.record.specs.GraphRecords.{graph_of}
@@ -17,10 +16,8 @@ use Rattle.record.specs.Widths.{token_width, cell_width}
 use Rattle.machine.specs.Machine.{Machine, State, by_picks, run_by}
 use Rattle.machine.specs.Saved.{Saved, is_saved}
 use Rattle.rules.specs.declared.answer.Refusal.TheVariants.{DamagedState}
-use Rattle.rules.specs.declared.answer.Checked.{Checked}
-use Rattle.rules.specs.declared.answer.Checked.TheVariants.{Passed}
 use Rattle.rules.specs.declared.answer.Answer.{Answer}
-use Rattle.rules.specs.Check.{demand, all, any, operands_at, enters_site, check_graph, check_stores, check_with}
+use Rattle.rules.specs.Check.{demand, all, any, operands_at, enters_site, check_graph, check_stores, check_with, Checked}
 use Rattle.rules.specs.InstructionSet.{machine_of}
 use Rattle.rules.specs.Callers.{PathIn}
 use Rattle.rules.specs.Run.{token_held, cell_held, picks_of, Result, ran_to, unless_failed, Ran}
@@ -44,9 +41,9 @@ unfoldable pub cell_allowed : List ℕ → Bool
 cell_allowed l = Cells.cell_state_allowed l && Cells.zero_until_present l
 
 -- what LEAVE finds
-abbrev pub on_left : {A : Type 0} → Left → A → ((site : ℕ) → Tag → A) → A
-on_left (To site caller) a f = f site caller
-on_left NoCaller a f = a
+abbrev pub on_left : {A : Type 0} → Option Caller → A → ((site : ℕ) → Tag → A) → A
+on_left (Some c) a f = f c.site c.tag
+on_left None a f = a
 
 -- "each path made of sites that have an ENTER with its levels unbroken": LEAVE finds one after the other, and then no caller. `levels` at most
 abbrev pub path_made : List Instruction → (levels : ℕ) → Tag → Bool
@@ -78,7 +75,7 @@ pub record TakesState (graph ledger cells : List ℕ) (firings n : ℕ) : Type 0
   pub saved : Saved (machine_saved graph [] ledger cells) firings (state_saved ledger cells n)
 
 abbrev pub TakenExactly : Type 0
-TakenExactly = (graph ledger cells : List ℕ) (firings n : ℕ) → check_graph graph ≡ Passed → (state_taken graph ledger cells firings n ≡ true) ↔ TakesState graph ledger cells firings n
+TakenExactly = (graph ledger cells : List ℕ) (firings n : ℕ) → check_graph graph ≡ Ok tt → (state_taken graph ledger cells firings n ≡ true) ↔ TakesState graph ledger cells firings n
 
 -- ---- a run from there
 

@@ -34,6 +34,24 @@ pub enum Refusal {
 
 // A refusal comes with its place.
 #[derive(Clone, Copy)]
+pub struct Fault {
+    pub refusal: Refusal,
+    pub place: usize,
+}
+
+impl Refusal {
+    pub fn at(self, place: usize) -> Fault
+        ensures { result ≡ record { refusal = self; place = place } }
+    {
+        Fault {
+            refusal: self,
+            place,
+        }
+    }
+}
+
+// A refusal and its place stand here as they go to C.
+#[derive(Clone, Copy)]
 pub enum Outcome {
     Completed,
     Hung,
@@ -60,10 +78,10 @@ pub fn answered(outcome: Outcome, firings: usize, tokens: usize) -> Answer
 }
 
 // The answer of a run that was refused before any firing.
-pub fn refused(r: Refusal, place: usize) -> Answer
-    ensures { result ≡ record { outcome = Refused r place; firings = 0; tokens = 0 } }
+pub fn refused(fault: Fault) -> Answer
+    ensures { result ≡ record { outcome = Refused fault.refusal fault.place; firings = 0; tokens = 0 } }
 {
-    answered(Outcome::Refused(r, place), 0, 0)
+    answered(Outcome::Refused(fault.refusal, fault.place), 0, 0)
 }
 
 // What a profile answers, with the number of its records.
@@ -73,32 +91,11 @@ pub struct Profiled {
     pub records: usize,
 }
 
-// What a check before the first firing says.
-#[derive(Clone, Copy)]
-pub enum Checked {
-    Passed,
-    Failed(Refusal, usize),
-}
-
 // What a graph will need, before it runs: the most firings and the most tokens.
 #[derive(Clone, Copy)]
-pub enum Needs {
-    AtMost { firings: usize, tokens: usize },
-    Refused(Refusal, usize),
-}
-
-// What becomes of an expression: a graph, by the number of its records.
-#[derive(Clone, Copy)]
-pub enum Made {
-    Records(usize),
-    Refused(Refusal, usize),
-}
-
-// What an expression gives.
-#[derive(Clone, Copy)]
-pub enum Evaluated {
-    Value(i32),
-    Refused(Refusal, usize),
+pub struct Needs {
+    pub firings: usize,
+    pub tokens: usize,
 }
 
 // The papers' number of a refusal.

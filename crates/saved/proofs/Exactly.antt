@@ -44,8 +44,7 @@ use Rattle.rules.specs.Saved.{state_saved, machine_saved, token_allowed, cell_al
 use Rattle.rules.proofs.Passed.{both}
 use Rattle.rules.proofs.Inputs.{all_different}
 use Rattle.rules.proofs.Saved.{tests}
-use Rattle.store_chains.specs.declared.Found.{Found}
-use Rattle.store_chains.specs.declared.Found.TheVariants.{At, Nothing}
+use Rattle.std.specs.Prelude.{Option, Some, None, is_none}
 use Rattle.store_chains.specs.Search.{first_from}
 use Rattle.store_chains.specs.Deferred.{chain_of, any_on}
 use Rattle.store_enabled.specs.Enabled.{arity_of}
@@ -54,7 +53,7 @@ use Rattle.abstraction.specs.States.{no_token}
 use Rattle.abstraction.proofs.Arities.{arity_small}
 use Rattle.abstraction.proofs.Keys.{stands, any_nothing, found_content, held_find, search_at, search_nothing}
 use Rattle.fire_outputs.proofs.AsMachine.{cell_held_lem}
-use Rattle.saved.specs.Passes.{content_on, content_allowed, is_nothing, arrives_at, spent_found, partnered_at, count_up_to, first_spent, is_waiting_record, cell_right, Passes}
+use Rattle.saved.specs.Passes.{content_on, content_allowed, arrives_at, spent_found, partnered_at, count_up_to, first_spent, is_waiting_record, cell_right, Passes}
 
 -- ---- tests of all
 
@@ -157,15 +156,15 @@ module _ (graph ledger cells tables : List ℕ) (used : ℕ) (right : Arities (g
   tokens_take (suc i) zero l h = absurd (omega arith)
   tokens_take (suc i) (suc n) l h = ap (λ (us : List Record.Token). Tokens.decode_token l ∷ us) (tokens_take i n (drop token_width l) (le_of_suc-le-suc h))
 
-  free_nothing : (f : Found) → is_nothing f ≡ true → f ≡ Nothing
-  free_nothing (At i) e = false_true e
-  free_nothing Nothing e = refl
+  free_nothing : (f : Option ℕ) → is_none f ≡ true → f ≡ None
+  free_nothing (Some i) e = false_true e
+  free_nothing None e = refl
 
   any_none : (p : Record.Token → Bool) (us : List Record.Token) → ((j : ℕ) → j < length us → p (get_or us j no_token) ≡ false) → any p us ≡ false
   any_none p [] h = refl
   any_none p (u ∷ us) h = rw (h 0 (omega arith)) (any_none p us (λ j l. h (suc j) (omega arith)))
 
-  free_before : Distinct M hs → (i : ℕ) → i < used → first_from (stands_at (tok i).tag (tok i).port) 0 (tokens i ledger) ≡ Nothing
+  free_before : Distinct M hs → (i : ℕ) → i < used → first_from (stands_at (tok i).tag (tok i).port) 0 (tokens i ledger) ≡ None
   free_before ds i h =
       any_nothing (stands_at (tok i).tag (tok i).port) 0 (tokens i ledger) (any_none (stands_at (tok i).tag (tok i).port) (tokens i ledger) (λ j l.
       let k : j < i = rw (← length_rows token_width Tokens.decode_token i ledger) l in
@@ -177,7 +176,7 @@ module _ (graph ledger cells tables : List ℕ) (used : ℕ) (right : Arities (g
       no_stand true q n = absurd (n q)
       no_stand false q n = q
 
-  before_free : ((i : ℕ) → i < used → first_from (stands_at (tok i).tag (tok i).port) 0 (tokens i ledger) ≡ Nothing) → Distinct M hs
+  before_free : ((i : ℕ) → i < used → first_from (stands_at (tok i).tag (tok i).port) 0 (tokens i ledger) ≡ None) → Distinct M hs
   before_free h =
       all_different g [] (capacity_of (length ledger)) count no_token ts (λ k l.
       let j : k < used = rw (← size) l in
@@ -205,9 +204,9 @@ module _ (graph ledger cells tables : List ℕ) (used : ℕ) (right : Arities (g
   spent_port : (tag : Tag) (p : ℕ) → is_spent_there (find M (at M tag p) hs) ≡ spent_found tok (first_from (stands_at tag p) 0 ts)
   spent_port tag p = ap is_spent_there (held_find g [] (capacity_of (length ledger)) count tag p no_token ts) ∙ go (first_from (stands_at tag p) 0 ts) refl
     where
-      go : (f : Found) → first_from (stands_at tag p) 0 ts ≡ f → is_spent_there (found_content no_token ts f) ≡ spent_found tok f
-      go Nothing e = refl
-      go (At j) e =
+      go : (f : Option ℕ) → first_from (stands_at tag p) 0 ts ≡ f → is_spent_there (found_content no_token ts f) ≡ spent_found tok f
+      go None e = refl
+      go (Some j) e =
           let l : j < used = rw (← size) (search_at (stands_at tag p) no_token j ts e).within in
           ap (λ (t : Record.Token). Sequences.is_spent (content_held t.content)) (here j no_token l) ∙ held_spent_lem (tok j).content
 
@@ -338,11 +337,11 @@ module _ (graph ledger cells tables : List ℕ) (used : ℕ) (right : Arities (g
     passes_taken room p =
         let arrive : (i : ℕ) → i < used → arrives_at g tables ledger count i ≡ true = λ i h. up_to (arrives_at g tables ledger count) used i p.arrive h in
         let fields : (i : ℕ) → i < used → token_allowed g (drop (i * token_width) ledger) ≡ true = λ i h. (both (token_allowed g (drop (i * token_width) ledger)) _ (arrive i h)).0 in
-        let rest : (i : ℕ) → i < used → (path_made g most_levels (tok i).tag && (content_allowed tables count (tok i) && is_nothing (first_from (stands_at (tok i).tag (tok i).port) 0 (tokens i ledger)))) ≡ true =
+        let rest : (i : ℕ) → i < used → (path_made g most_levels (tok i).tag && (content_allowed tables count (tok i) && is_none (first_from (stands_at (tok i).tag (tok i).port) 0 (tokens i ledger)))) ≡ true =
         λ i h. (both (token_allowed g (drop (i * token_width) ledger)) _ (arrive i h)).1 in
         let paths : (i : ℕ) → i < used → path_made g most_levels (tok i).tag ≡ true = λ i h. (both (path_made g most_levels (tok i).tag) _ (rest i h)).0 in
         let content : (i : ℕ) → i < used → content_allowed tables count (tok i) ≡ true = λ i h. (both (content_allowed tables count (tok i)) _ (both (path_made g most_levels (tok i).tag) _ (rest i h)).1).0 in
-        let free : (i : ℕ) → i < used → first_from (stands_at (tok i).tag (tok i).port) 0 (tokens i ledger) ≡ Nothing =
+        let free : (i : ℕ) → i < used → first_from (stands_at (tok i).tag (tok i).port) 0 (tokens i ledger) ≡ None =
         λ i h. free_nothing _ (both (content_allowed tables count (tok i)) _ (both (path_made g most_levels (tok i).tag) _ (rest i h)).1).1 in
         let ds = before_free free in
         let rightCells : (c : ℕ) → c < count → cell_right ts cells c ≡ true = λ c h. up_to (cell_right ts cells) count c p.cells_right h in

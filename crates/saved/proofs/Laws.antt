@@ -12,7 +12,7 @@ use lib.ListN.{length, get_or, take, drop, replicate, get_or-replicate}
 use lib.Seq.{length-take-le}
 use lib.IntN.{pos}
 use Rattle.record.specs.declared.tag.Tag.{Tag}
-use Rattle.record.specs.declared.tag.Left.TheVariants.{To, NoCaller}
+use Rattle.std.specs.Prelude.{Some, None}
 use Rattle.record.specs.declared.token.Content.{Content}
 use Rattle.record.specs.declared.token.Content.TheVariants.{Live, Spent, Deferred}
 use Rattle.record.specs.declared.instruction.Instruction.{Instruction}
@@ -39,12 +39,11 @@ use Rattle.check_fields.specs.Sites.{at_site}
 use Rattle.check_fields.proofs.Sites.{at_site_lem}
 use Rattle.check_fields.proofs.Turns.{any_append}
 use Rattle.rules.proofs.PassedGraph.{two_operands}
-use Rattle.store_chains.specs.declared.Found.{Found}
-use Rattle.store_chains.specs.declared.Found.TheVariants.{At, Nothing}
+use Rattle.std.specs.Prelude.{Option, Some, None, is_none}
 use Rattle.store_chains.specs.Search.{first_from, Free}
 use Rattle.store_chains.specs.Deferred.{LowCell}
 use Rattle.store_enabled.specs.Enabled.{arity_of}
-use Rattle.saved.specs.Passes.{EnteredSites, content_on, content_allowed, is_nothing, arrives_at, count_up_to}
+use Rattle.saved.specs.Passes.{EnteredSites, content_on, content_allowed, arrives_at, count_up_to}
 
 -- ---- records
 
@@ -124,22 +123,22 @@ one_site rs sites r v n h site l =
 -- ---- a path, level by level
 
 module _ (g : List Instruction) (sites : List ℕ) (entered : EnteredSites g sites) where
-  pub no_level : (n : ℕ) (τ : Tag) → leave_of τ ≡ NoCaller → path_made g n τ ≡ true
+  pub no_level : (n : ℕ) (τ : Tag) → leave_of τ ≡ None → path_made g n τ ≡ true
   no_level zero τ e = rw e
   no_level (suc n) τ e = rw e
 
-  pub bad_level : (n : ℕ) (τ : Tag) (site : ℕ) (caller : Tag) → leave_of τ ≡ To site caller → site < 256 → get_or sites site 0 ≡ 0 → path_made g n τ ≡ false
+  pub bad_level : (n : ℕ) (τ : Tag) (site : ℕ) (caller : Tag) → leave_of τ ≡ Some (record { site = site; tag = caller }) → site < 256 → get_or sites site 0 ≡ 0 → path_made g n τ ≡ false
   bad_level zero τ site caller e l z = rw e
   bad_level (suc n) τ site caller e l z = rw (e, entered site l, z)
 
-  pub good_level : (n : ℕ) (τ : Tag) (site : ℕ) (caller : Tag) → leave_of τ ≡ To site caller → site < 256 → ¬ (get_or sites site 0 ≡ 0) → path_made g (suc n) τ ≡ path_made g n caller
+  pub good_level : (n : ℕ) (τ : Tag) (site : ℕ) (caller : Tag) → leave_of τ ≡ Some (record { site = site; tag = caller }) → site < 256 → ¬ (get_or sites site 0 ≡ 0) → path_made g (suc n) τ ≡ path_made g n caller
   good_level n τ site caller e l z = rw (e, entered site l, ne_eqb (get_or sites site 0) 0 z)
 
 pub last_level : (g : List Instruction) (τ : Tag) → is_root τ.path ≡ path_made g 0 τ
 unfolding leave_of
 last_level g τ = go (is_root τ.path) (path_number τ.path)
   where
-    go : (b : Bool) (path : ℕ) → b ≡ on_left (cond b NoCaller (To (path / 256 % 256) (record { path = path_words (path / 65536); iteration = path % 256; instruction = τ.instruction }))) true (λ site caller. false)
+    go : (b : Bool) (path : ℕ) → b ≡ on_left (cond b None (Some (record { site = path / 256 % 256; tag = record { path = path_words (path / 65536); iteration = path % 256; instruction = τ.instruction } }))) true (λ site caller. false)
     go true path = refl
     go false path = refl
 
@@ -150,9 +149,9 @@ low_content_lem operand count (Live v) h e = tt
 low_content_lem operand count (Spent v) h e = tt
 low_content_lem operand count (Deferred c) h e = let z = ltb-true c count e in omega arith
 
-nothing_free : (f : Found) → is_nothing f ≡ true → f ≡ Nothing
-nothing_free (At i) e = false_true e
-nothing_free Nothing e = refl
+nothing_free : (f : Option ℕ) → is_none f ≡ true → f ≡ None
+nothing_free (Some i) e = false_true e
+nothing_free None e = refl
 
 pub arrives_parts : (g : List Instruction) (tables ledger : List ℕ) (count i : ℕ) → count ≤ 1024 → arrives_at g tables ledger count i ≡ true
     → ((Tokens.token_at ledger i).port < 2) × LowCell (Tokens.token_at ledger i).content × Free (Tokens.tokens i ledger) (Tokens.token_at ledger i).tag (Tokens.token_at ledger i).port
@@ -161,7 +160,7 @@ arrives_parts g tables ledger count i h e =
     let t = Tokens.token_at ledger i in
     let (fields, e1) = both (token_allowed g (drop (i * token_width) ledger)) _ e in
     let (path, e2) = both (path_made g most_levels t.tag) _ e1 in
-    let (content, free) = both (content_allowed tables count t) (is_nothing (first_from (stands_at t.tag t.port) 0 (Tokens.tokens i ledger))) e2 in
+    let (content, free) = both (content_allowed tables count t) (is_none (first_from (stands_at t.tag t.port) 0 (Tokens.tokens i ledger))) e2 in
     let port = ltb-true t.port (operands_at g t.tag.instruction) (both (ltb t.port (operands_at g t.tag.instruction)) (Tokens.token_state_allowed (drop (i * token_width) ledger)) fields).0 in
     (omega (arith, two_operands (instruction_at g t.tag.instruction).code), low_content_lem (ltb t.port (arity_of tables t.tag)) count t.content h content, nothing_free _ free)
 

@@ -18,8 +18,7 @@ use Rattle.machine.specs.Saved.{all_up_to}
 use Rattle.machine.proofs.View.{false_true}
 use Rattle.machine.proofs.Taken.{up_to, all_of}
 use Rattle.rules.proofs.Passed.{both}
-use Rattle.store_chains.specs.declared.Found.{Found}
-use Rattle.store_chains.specs.declared.Found.TheVariants.{At, Nothing}
+use Rattle.std.specs.Prelude.{Option, Some, None}
 use Rattle.store_chains.specs.Search.{first_from, Free}
 use Rattle.store_enabled.specs.Enabled.{arity_of}
 use Rattle.store_chains.proofs.Index.{tag_own}
@@ -101,10 +100,10 @@ module _ (tables ledger : List ℕ) (used : ℕ) (low : (i : ℕ) → i < used �
           let e : i ≡ j = one k i j h (omega arith) (omega arith) q p in
           false_true (sym s ∙ (rw e at (spent i z))))
 
-      go : (f : Found) → first_from (stands_at (tok k).tag (1 - (tok k).port)) 0 (tokens n ledger) ≡ f → met marked partner k n ≡ spent_found tok f
-      go Nothing e = met_not marked partner k n (λ j l p z.
+      go : (f : Option ℕ) → first_from (stands_at (tok k).tag (1 - (tok k).port)) 0 (tokens n ledger) ≡ f → met marked partner k n ≡ spent_found tok f
+      go None e = met_not marked partner k n (λ j l p z.
           false_true (sym (rw (here j l) at (search_nothing (stands_at (tok k).tag (1 - (tok k).port)) no_token (tokens n ledger) e j (rw size l))) ∙ p))
-      go (At j) e =
+      go (Some j) e =
           let w = search_at (stands_at (tok k).tag (1 - (tok k).port)) no_token j (tokens n ledger) e in
           let l : j < n = rw (← size) w.within in
           at j l (rw (here j l) at w.passes) (is_spent_record (tok j).content) refl

@@ -1,6 +1,6 @@
 -- Working definition: no public promise cites it.
 -- 02, R-13: what is asked of a saved state, record by record, as a pass over its tokens and one over its cells ask it: all conditions give one answer. Assumes nothing.
-use Rattle.std.specs.Prelude.{ℕ, zero, suc, ◌-◌, ◌*◌, ◌/◌, ◌<◌, ◌≡◌, Bool, true, false, not, ◌&&◌, ◌||◌, cond, List, length, get_or, take, drop, pos, eqb, ltb}
+use Rattle.std.specs.Prelude.{ℕ, zero, suc, ◌-◌, ◌*◌, ◌/◌, ◌<◌, ◌≡◌, Bool, true, false, not, ◌&&◌, ◌||◌, cond, List, length, get_or, take, drop, pos, eqb, ltb, Option, Some, None, is_none}
 use Rattle.record.specs.declared.token.Token.{Token}
 use Rattle.record.specs.declared.token.Content.{Content}
 use Rattle.record.specs.declared.token.Content.TheVariants.{Live, Spent, Deferred}
@@ -15,8 +15,6 @@ use Rattle.record.specs.Widths.{token_width, cell_width}
 use Rattle.machine.specs.Saved.{all_up_to}
 use Rattle.rules.specs.Check.{any, enters_site}
 use Rattle.rules.specs.Saved.{token_allowed, cell_allowed, path_made}
-use Rattle.store_chains.specs.declared.Found.{Found}
-use Rattle.store_chains.specs.declared.Found.TheVariants.{At, Nothing}
 use Rattle.store_chains.specs.Search.{first_from}
 use Rattle.store_chains.specs.Deferred.{any_on}
 use Rattle.store_enabled.specs.Enabled.{arity_of}
@@ -36,23 +34,19 @@ content_on operand count (Deferred c) = ltb c count
 unfoldable pub content_allowed : (tables : List ℕ) → (count : ℕ) → Token → Bool
 content_allowed tables count t = content_on (ltb t.port (arity_of tables t.tag)) count t.content
 
-abbrev pub is_nothing : Found → Bool
-is_nothing (At i) = false
-is_nothing Nothing = true
-
 -- record i: "fields and states allowed", "each path made of sites that have an ENTER with its levels unbroken", the two above, and "tag and port never twice"
 unfoldable pub arrives_at : List Instruction → (tables ledger : List ℕ) → (count i : ℕ) → Bool
 arrives_at g tables ledger count i =
     token_allowed g (drop (i * token_width) ledger)
     && (path_made g most_levels (token_at ledger i).tag
     && (content_allowed tables count (token_at ledger i)
-    && is_nothing (first_from (stands_at (token_at ledger i).tag (token_at ledger i).port) 0 (tokens i ledger))))
+    && is_none (first_from (stands_at (token_at ledger i).tag (token_at ledger i).port) 0 (tokens i ledger))))
 
 -- ---- operands spent together, and the firings
 
-abbrev pub spent_found : (ℕ → Token) → Found → Bool
-spent_found at (At i) = is_spent_record (at i).content
-spent_found at Nothing = false
+abbrev pub spent_found : (ℕ → Token) → Option ℕ → Bool
+spent_found at (Some i) = is_spent_record (at i).content
+spent_found at None = false
 
 -- record i: "a tag's operands all present and spent or none spent", which is asked of the other port where there are two
 unfoldable pub partnered_at : (tables ledger : List ℕ) → (used i : ℕ) → Bool

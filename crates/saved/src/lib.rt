@@ -17,14 +17,14 @@ ghost use Rattle.store_chains.specs.Search.{FoundWithin};
 ghost use Rattle.store_enabled.specs.Store.{Known};
 ghost use Rattle.store.specs.Matching.{Matching};
 ghost use Rattle.fire.specs.Running.{Prepared, Running};
-ghost use Rattle.saved.specs.Passes.{EnteredSites, content_allowed, is_nothing, arrives_at, spent_found, spent_of_two, closes_at, first_spent, enters_all, is_waiting_record, CellBytes, cell_right};
+ghost use Rattle.saved.specs.Passes.{EnteredSites, content_allowed, arrives_at, spent_found, spent_of_two, closes_at, first_spent, enters_all, is_waiting_record, CellBytes, cell_right};
 
 use check_fields::{arc, site};
 use record::cell::Cell;
-use record::tag::{Left, Tag};
+use record::tag::Tag;
 use record::token::{Content, Token};
 use record::{cell, instruction, operation, token};
-use store_chains::{Found, Links, Sought};
+use store_chains::Links;
 use store_enabled::Tables;
 use store_flags::Flags;
 
@@ -36,17 +36,9 @@ fn find_sites(graph: &[u8], sites: &mut [u32; 256])
     ensures { EnteredSites (graph_of graph.now) sites.new }
 {
     *sites = [0u32; 256];
-    let mut i = 0;
-    while i < graph.len() / instruction::WIDTH {
+    for i in 0..graph.len() / instruction::WIDTH {
         site::note(sites, instruction::instruction_at(graph, i));
-        i += 1;
     }
-}
-
-fn wide(x: u8) -> usize
-    ensures { (result ≡ x) × (result < 256) }
-{
-    x as usize
 }
 
 // Whether a path is made of sites that have an ENTER, with its levels unbroken: LEAVE finds one after the other.
@@ -54,32 +46,17 @@ fn path_made(sites: &[u32; 256], tag: Tag) -> bool
     ensures { (g : List Instruction) → EnteredSites g sites.now → result ≡ path_made g most_levels tag }
 {
     let mut at = tag;
-    let mut more = LEVELS;
-    while 0 < more {
-        let left = at.leave();
-        let Left::To { site, tag: caller } = left else {
+    for _ in 0..LEVELS {
+        let Some(caller) = at.leave() else {
             return true;
         };
-        if sites[wide(site)] == 0 {
+        if sites[caller.site as usize] == 0 {
             return false;
         }
-        at = caller;
-        more -= 1;
+        at = caller.tag;
     }
     let path = at.path;
     path.is_root()
-}
-
-fn wide16(x: u8) -> u16
-    ensures { result ≡ x }
-{
-    x as u16
-}
-
-fn wide32(x: u32) -> usize
-    ensures { result ≡ x }
-{
-    x as usize
 }
 
 // Whether a spent token was an operand, and a deferred one names a cell of the store.
@@ -90,8 +67,8 @@ fn content_allowed(tables: &Tables, count: usize, t: Token) -> bool
     let content = t.content;
     match content {
         Content::Live(_) => true,
-        Content::Spent(_) => wide16(t.port) < store_enabled::arity(tables, tag),
-        Content::Deferred(c) => wide32(c) < count,
+        Content::Spent(_) => (t.port as u16) < store_enabled::arity(tables, tag),
+        Content::Deferred(c) => (c as usize) < count,
     }
 }
 
@@ -106,7 +83,7 @@ fn port_allowed(graph: &[u8], tables: &Tables, t: Token) -> bool
         let counts = operation::counts();
         return t.port < arc::operands_at(&counts, graph, tag.instruction);
     }
-    wide16(t.port) < operands
+    (t.port as u16) < operands
 }
 
 // Whether fields and state of the record that s starts with are allowed; then its bytes are those of its token.
@@ -116,15 +93,6 @@ fn token_allowed(graph: &[u8], tables: &Tables, s: &[u8]) -> bool
     ensures s_value { result ≡ true → (encode_token (decode_token s.now) ≡ take token_width s.now) × TokenFits (decode_token s.now) }
 {
     port_allowed(graph, tables, token::decode(s)) && token::state_allowed(s)
-}
-
-fn is_nothing(f: Found) -> bool
-    ensures { result ≡ is_nothing f }
-{
-    match f {
-        Found::At(_) => false,
-        Found::Nothing => true,
-    }
 }
 
 // Whether record i can arrive in the matching store of those before it.
@@ -152,7 +120,7 @@ fn arrives(
     if !content_allowed(tables, count, t) {
         return false;
     }
-    is_nothing(store::find(links, ledger, i, tag, t.port))
+    store::find(links, ledger, i, tag, t.port).is_none()
 }
 
 fn is_spent(content: Content) -> bool
@@ -165,17 +133,17 @@ fn is_spent(content: Content) -> bool
     }
 }
 
-fn spent_found(ledger: &[u8], used: usize, f: Found) -> bool
+fn spent_found(ledger: &[u8], used: usize, f: Option<usize>) -> bool
     requires { FoundWithin f used × (used ≤ length ledger.now / token_width) }
     ensures { result ≡ spent_found (token_at ledger.now) f }
 {
     match f {
-        Found::At(j) => {
+        Some(j) => {
             let t = token::token_at(ledger, j);
             let content = t.content;
             is_spent(content)
         }
-        Found::Nothing => false,
+        None => false,
     }
 }
 
@@ -214,12 +182,6 @@ fn one_if(b: bool) -> usize
     if b { 1 } else { 0 }
 }
 
-fn same(a: usize, b: usize) -> bool
-    ensures { result ≡ eqb a b }
-{
-    a == b
-}
-
 // The pass over the tokens: each arrives in the matching store of those before it. Operands are spent together if half of those
 // that are spent, of two, close a pair.
 fn enter(
@@ -239,11 +201,10 @@ fn enter(
     ensures value { result ≡ enters_all (graph_of graph.now) tables.now ledger.now count firings used }
     ensures cases { result ≡ true → Matching tables.now links.new flags.new ledger.now used }
 {
-    let mut i = 0;
     let mut fired = 0;
     let mut of_two = 0;
     let mut closed = 0;
-    while i < used {
+    for i in 0..used {
         if !arrives(graph, tables, sites, links, ledger, count, i) {
             return false;
         }
@@ -252,14 +213,13 @@ fn enter(
         of_two += one_if(spent_of_two(tables, t));
         closed += one_if(closes(tables, links, ledger, i, t));
         let tag = t.tag;
-        let Sought::Free(slot) = store::seek(links, ledger, i, tag, t.port) else {
+        let Some(slot) = store::seek(links, ledger, i, tag, t.port) else {
             // `arrives` found none there.
             return false;
         };
         store::enter(tables, links, flags, ledger, i, t, slot);
-        i += 1;
     }
-    same(closed * 2, of_two) && same(fired, firings)
+    closed * 2 == of_two && fired == firings
 }
 
 fn is_waiting(cell: Cell) -> bool
@@ -305,12 +265,10 @@ fn cells_right(links: &Links, cells: &[u8]) -> bool
         → result ≡ all_up_to (cell_right (tokens used ledger) cells.now) (length cells.now / cell_width) }
     ensures cell_bytes { result ≡ true → (c : ℕ) → c < length cells.now / cell_width → CellBytes cells.now c }
 {
-    let mut c = 0;
-    while c < cells.len() / cell::WIDTH {
+    for c in 0..cells.len() / cell::WIDTH {
         if !cell_right(links, cells, c) {
             return false;
         }
-        c += 1;
     }
     true
 }
@@ -328,7 +286,7 @@ pub fn take(
 ) -> bool
     requires { Prepared graph.now tables.now
         × (length ledger.now / token_width ≤ 2048) × (length cells.now % cell_width ≡ 0) × (length cells.now / cell_width ≤ 1024)
-        × (links.old ≡ replicate 11264 0) × (flags.old ≡ replicate 69 0) }
+        × (links.old ≡ replicate 11264 0) × (flags.old ≡ replicate 2048 0) }
     ensures value { result ≡ state_taken graph.now ledger.now cells.now firings used }
     ensures running { result ≡ true → Running (graph_of graph.now) tables.now links.new flags.new ledger.now cells.now used }
 {

@@ -1,5 +1,6 @@
 -- The start of an accepted run: the inputs are in the ledger and all cells absent, and that is the state from which 01's run starts; and the end of what is
 -- fired from there, said of the buffers as lent. Assumes nothing.
+use Rattle.std.proofs.Common.{Ok}
 use Prim.Native.Nat.{ℕ, zero, suc, ◌+◌, ◌*◌, ◌/◌, ◌≤◌, ◌<◌}
 use mathlib.Core.Path.{◌≡◌, refl, sym, ap, ◌∙◌, subst}
 use mathlib.Core.List.{List, [], ◌∷◌, ◌++◌, map}
@@ -33,7 +34,6 @@ use Rattle.machine.specs.Sequences.{Fires}
 use Rattle.machine.proofs.Reached.{reached_good, reached_count, sequence_reaches}
 use Rattle.rules.specs.declared.answer.Refusal.{Refusal}
 use Rattle.rules.specs.declared.answer.Answer.{Answer}
-use Rattle.rules.specs.declared.answer.Checked.TheVariants.{Passed}
 use Rattle.rules.specs.Check.{check_inputs, check, operands_at}
 use Rattle.rules.specs.InstructionSet.{arity_in, machine_of}
 use Rattle.rules.specs.Run.{content_held, token_held, token_record, cell_record, first_state}
@@ -69,7 +69,7 @@ low_live (Live v) h = tt
 low_live (Spent v) h = tt
 low_live (Deferred c) h = let z : ◌≡◌ {A = ℕ} 0 1 = cc h.1 in absurd (omega arith)
 
-module _ (graph inputs : List ℕ) (capacity count : ℕ) (accepted : check_inputs (graph_of graph) capacity inputs ≡ Passed) where
+module _ (graph inputs : List ℕ) (capacity count : ℕ) (accepted : check_inputs (graph_of graph) capacity inputs ≡ Ok tt) where
   inputs_good : GoodInputs (graph_of graph) capacity inputs
   inputs_good = passed_inputs (graph_of graph) capacity inputs accepted
 
@@ -187,7 +187,7 @@ module _ (graph arrays inputs ledger cells : List ℕ) (accepted : Accepted grap
     }
 
 -- a run's check says so
-pub accepted_by : (graph arrays inputs picks : List ℕ) (ledger cells : ℕ) → check graph arrays inputs picks ledger cells ≡ Passed → Accepted graph arrays inputs ledger cells
+pub accepted_by : (graph arrays inputs picks : List ℕ) (ledger cells : ℕ) → check graph arrays inputs picks ledger cells ≡ Ok tt → Accepted graph arrays inputs ledger cells
 accepted_by graph arrays inputs picks ledger cells e =
     let parts = passed_check graph arrays inputs picks ledger cells e in
     let stores = passed_stores (length inputs) (length picks) ledger cells parts.1 in

@@ -1,13 +1,12 @@
 -- Working definition: no public promise cites it.
 -- 01, "Firing": "An accepted run first sets all cells absent and writes its inputs to the ledger." What it is lent, and what holds then.
 -- Assumes nothing.
-use Rattle.std.specs.Prelude.{ℕ, ◌*◌, ◌/◌, ◌%◌, ◌≤◌, ◌≡◌, List, length, drop}
+use Rattle.std.specs.Prelude.{ℕ, ◌*◌, ◌/◌, ◌%◌, ◌≤◌, ◌≡◌, List, length, drop, Ok}
 use Rattle.record.specs.GraphRecords.{graph_of}
 use Rattle.record.specs.Arrays.{most_arrays, arrays_of}
 use Rattle.record.specs.TokensAndTags.{most_tokens, capacity_of}
 use Rattle.record.specs.Widths.{token_width, cell_width, array_width}
 use Rattle.machine.specs.Machine.{Machine}
-use Rattle.rules.specs.declared.answer.Checked.TheVariants.{Passed}
 use Rattle.rules.specs.Check.{check_graph, check_inputs, most_cells}
 use Rattle.rules.specs.InstructionSet.{machine_of}
 use Rattle.rules.specs.Run.{first_state}
@@ -20,9 +19,9 @@ machine_lent graph arrays ledger cells = machine_of (graph_of graph) (arrays_of 
 
 -- graph and inputs passed their checks, the table of named arrays is not too long, and ledger and cells, by their lengths in bytes, are of allowed length
 pub record Accepted (graph arrays inputs : List ℕ) (ledger cells : ℕ) : Type 0 where
-  pub graph_passed : check_graph graph ≡ Passed
+  pub graph_passed : check_graph graph ≡ Ok tt
   pub few_arrays : length arrays / array_width ≤ most_arrays
-  pub inputs_passed : check_inputs (graph_of graph) (capacity_of ledger) inputs ≡ Passed
+  pub inputs_passed : check_inputs (graph_of graph) (capacity_of ledger) inputs ≡ Ok tt
   pub few : capacity_of ledger ≤ most_tokens
   pub cell_records : (cells % cell_width ≡ 0) × (cells / cell_width ≤ most_cells)
 

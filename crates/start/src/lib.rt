@@ -20,7 +20,7 @@ pub fn begin(
     ledger: &mut [u8],
     cells: &mut [u8],
 ) -> usize
-    requires { Accepted graph.now arrays.now inputs.now (length ledger.old) (length cells.old) × (links.old ≡ replicate 11264 0) × (flags.old ≡ replicate 69 0) }
+    requires { Accepted graph.now arrays.now inputs.now (length ledger.old) (length cells.old) × (links.old ≡ replicate 11264 0) × (flags.old ≡ replicate 2048 0) }
     ensures { Begun graph.now arrays.now inputs.now tables.new links.new flags.new
         ledger.old ledger.new cells.old cells.new result }
 {

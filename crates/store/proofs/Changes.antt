@@ -1,5 +1,5 @@
 -- What `arrive`, `spend_operands` and `wake` hand over to the chains of deferred tokens. Assumes nothing.
-use Prim.Native.Nat.{ℕ, ◌+◌, ◌-◌, ◌*◌, ◌≤◌, ◌<◌}
+use Prim.Native.Nat.{ℕ, suc, ◌+◌, ◌*◌, ◌<◌}
 use mathlib.Core.Path.{◌≡◌, refl, sym, ap, ◌∙◌}
 use mathlib.Core.Bool.{Bool, true, false, cond}
 use mathlib.Core.List.{List, [], ◌∷◌, ◌++◌, map}
@@ -15,10 +15,13 @@ use Rattle.record.specs.declared.token.Token.{Token}
 use Rattle.record.specs.declared.token.Content.{Content}
 use Rattle.record.specs.declared.token.Content.TheVariants.{Live, Spent, Deferred}
 use Rattle.record.specs.Widths.{token_width}
+use Rattle.std.specs.Prelude.{Option}
+use Rattle.store_chains.specs.Search.{found_of}
 use Rattle.store_chains.specs.Chains.{bucket_key}
 use Rattle.store_chains.specs.Deferred.{LowCell, chain_of, cell_key, Waiting, content_woken, woken}
 use Rattle.store_chains.proofs.Chains.{chained_same, chained_past}
 use Rattle.store_chains.proofs.Partners.{partnered_before}
+use Rattle.store_chains.proofs.Walks.{link_of, link_found}
 use Rattle.store_chains.proofs.Deferred.{Walk, walk_start, walk_own, walk_step, walk_end, waiting_woken}
 use Rattle.store_enabled.specs.Store.{Stored, tokens_spent}
 use Rattle.store_enabled.proofs.Bytes.{split, rest_put}
@@ -113,48 +116,45 @@ module _ (cell : ℕ) (v : ℤ) where
     pub walk : Walk cell v (tokens used l) (tokens used m) at
 
   module _ (tables links flags l : List ℕ) (used : ℕ) (w : Matching tables links flags l used) (small : cell < 1024) where
-    pub waking_start : Waking tables links l used flags l (get_or links (cell + 6144) 0)
+    pub waking_start : (first : Option ℕ) → first ≡ found_of (get_or links (cell + 6144) 0) → Waking tables links l used flags l (link_of first)
     unfolding StoreInside
-    waking_start = record {
+    waking_start first e = record {
       size = refl;
       rest = refl;
       store = w.inside.store;
-      walk = walk_start cell v links (tokens used l) (token_at l 0) w.inside.deferred small;
+      walk = rw (e, link_found (get_or links (cell + 6144) 0)) (walk_start cell v links (tokens used l) (token_at l 0) w.inside.deferred small);
     }
 
-    module _ (flags₁ m : List ℕ) (at : ℕ) (g : Waking tables links l used flags₁ m at) where
-      pub waking_low : at ≤ used
+    module _ (flags₁ m : List ℕ) (i : ℕ) (g : Waking tables links l used flags₁ m (suc i)) where
+      pub waking_low : i < used
       waking_low = omega (arith, g.walk.low, length_rows token_width decode_token used l)
 
       -- the next one gets the value
-      pub waking_own : (at ≡ 0 → ⊥) → content_woken cell v (token_at m (at - 1)).content ≡ Live v
+      pub waking_own : content_woken cell v (token_at m i).content ≡ Live v
       unfolding StoreInside
-      waking_own z =
-          let d = token_at m (at - 1) in
-          let low = waking_low in
-          let here : get_or (tokens used m) (at - 1) d ≡ d = get_d_rows token_width decode_token used (at - 1) m d (omega arith) in
-          rw here at (walk_own cell v links (tokens used l) d w.inside.deferred small (tokens used m) at z g.walk)
+      waking_own =
+          let d = token_at m i in
+          let here : get_or (tokens used m) i d ≡ d = get_d_rows token_width decode_token used i m d waking_low in
+          rw here at (walk_own cell v links (tokens used l) d w.inside.deferred small (tokens used m) i g.walk)
 
       -- one more is woken
-      pub waking_step : (at ≡ 0 → ⊥) → (flags₂ m₂ : List ℕ) → length m₂ ≡ length m
-          → m₂ ≡ put_row token_width m (at - 1) (encode_token (woken cell v (token_at m (at - 1))))
-          → tokens used m₂ ≡ set (tokens used m) (at - 1) (woken cell v (token_at m (at - 1)))
+      pub waking_step : (flags₂ m₂ : List ℕ) → length m₂ ≡ length m
+          → m₂ ≡ put_row token_width m i (encode_token (woken cell v (token_at m i)))
+          → tokens used m₂ ≡ set (tokens used m) i (woken cell v (token_at m i))
           → Stored tables links flags₂ m₂ used
-          → (get_or links (at - 1 + 7168) 0 < at) × Waking tables links l used flags₂ m₂ (get_or links (at - 1 + 7168) 0)
+          → (next : Option ℕ) → next ≡ found_of (get_or links (i + 7168) 0)
+          → (link_of next < suc i) × Waking tables links l used flags₂ m₂ (link_of next)
       unfolding StoreInside
-      waking_step z flags₂ m₂ len put e s =
+      waking_step flags₂ m₂ len put e s next q =
           let us = tokens used m in
-          let i = at - 1 in
           let d = token_at m i in
-          let low = waking_low in
-          let below : i < used = omega arith in
-          let here : get_or us i d ≡ d = get_d_rows token_width decode_token used i m d below in
+          let here : get_or us i d ≡ d = get_d_rows token_width decode_token used i m d waking_low in
           let same : tokens used m₂ ≡ set us i (woken cell v (get_or us i d)) = rw here e in
-          let next-step = walk_step cell v links (tokens used l) d w.inside.deferred small us at z g.walk in (
+          let next-step = walk_step cell v links (tokens used l) d w.inside.deferred small us i g.walk in rw (q, link_found (get_or links (i + 7168) 0)) (
             next-step.0,
             record {
               size = len ∙ g.size;
-              rest = rw put (rest_put used m g.store.bytes (woken cell v d) i below) ∙ g.rest;
+              rest = rw put (rest_put used m g.store.bytes (woken cell v d) i waking_low) ∙ g.rest;
               store = s;
               walk = rw same next-step.1;
             },

@@ -12,10 +12,9 @@ use Rattle.record.specs.TokensAndTags.{tokens, token_at, decode_token, encode_to
 use Rattle.buffer.proofs.Tables.{length_rows, get_d_rows}
 use Rattle.record.specs.declared.token.Token.{Token}
 use Rattle.record.specs.Widths.{token_width}
-use Rattle.store_flags.specs.Flags.{places, flags_of, Counted}
+use Rattle.store_flags.specs.Flags.{places, FlagList}
 use Rattle.store_flags.specs.Marks.{bit}
 use Rattle.store_flags.proofs.Laws.{zero_at}
-use Rattle.store_flags.proofs.Words.{none_set, counted_none}
 use Rattle.store_chains.specs.Chains.{bucket_key}
 use Rattle.store_chains.specs.Deferred.{LowCell, cell_key, Waiting}
 use Rattle.store_chains.proofs.Chains.{chained_none}
@@ -23,14 +22,14 @@ use Rattle.store_chains.proofs.Index.{and_left, and_right}
 use Rattle.store_chains.proofs.Partners.{partnered_none}
 use Rattle.store_enabled.specs.Enabled.{is_enabled, earliest_of, leads_in, enabled_places}
 use Rattle.store_enabled.specs.Store.{Known, Stored}
-use Rattle.store_enabled.proofs.Right.{right_none, right_flag, right_places, enabled_below, enabled_leads}
+use Rattle.store_enabled.proofs.Right.{right_none, right_list, right_flag, right_places, enabled_below, enabled_leads}
 use Rattle.store_enabled.proofs.Bytes.{split}
 use Rattle.store_enabled.proofs.Single.{single_none}
 use Rattle.store_enabled.proofs.Store.{known_few}
 use Rattle.store.specs.Matching.{StoreInside, Matching}
 
 -- arrays of zeros are right for a ledger with no used record
-pub matching_start : (tables ledger : List ℕ) → Matching tables (replicate 11264 0) (replicate 69 0) ledger 0
+pub matching_start : (tables ledger : List ℕ) → Matching tables (replicate 11264 0) (replicate 2048 0) ledger 0
 unfolding StoreInside
 matching_start tables ledger =
     let size : length (replicate {A = ℕ} 11264 0) ≡ 11264 = length-replicate {A = ℕ} 11264 0 in
@@ -46,8 +45,7 @@ matching_start tables ledger =
           };
           bytes = refl;
           fits = tt;
-          counted = counted_none;
-          right = rw none_set (right_none tables);
+          right = right_none tables;
         };
         deferred = chained_none 6144 1024 cell_key (replicate 11264 0) (omega (arith, size)) (zero_at 11264);
         cells = tt;
@@ -55,7 +53,7 @@ matching_start tables ledger =
     }
 
 module _ {tables links flags ledger : List ℕ} {used : ℕ} (m : Matching tables links flags ledger used) where
-  -- what `find`, `enabled_count`, `enabled_at` and `spend_operands` require is part of it
+  -- what `find` and `spend_operands` require is part of it
   pub matching_stored : Stored tables links flags ledger used
   unfolding StoreInside
   matching_stored = m.inside.store
@@ -63,12 +61,13 @@ module _ {tables links flags ledger : List ℕ} {used : ℕ} (m : Matching table
   pub matching_known : Known links ledger used
   matching_known = matching_stored.known
 
-  pub matching_counted : Counted flags
-  matching_counted = matching_stored.counted
+  pub matching_list : FlagList flags
+  matching_list =
+      right_list tables (tokens used ledger) flags (omega (arith, known_few links ledger used matching_known, length_rows token_width decode_token used ledger)) matching_stored.right
 
   -- the flags' ones are the places of the enabled activities
-  pub matching_places : places (flags_of flags) ≡ enabled_places tables (tokens used ledger)
-  matching_places = right_places tables (tokens used ledger) (flags_of flags) matching_stored.right
+  pub matching_places : places flags ≡ enabled_places tables (tokens used ledger)
+  matching_places = right_places tables (tokens used ledger) flags matching_stored.right
 
   pub matching_enabled_below : (k : ℕ) → k < length (enabled_places tables (tokens used ledger)) → get_or (enabled_places tables (tokens used ledger)) k 0 < used
   matching_enabled_below k h = omega (arith, enabled_below tables (tokens used ledger) k h, length_rows token_width decode_token used ledger)
@@ -83,13 +82,13 @@ module _ {tables links flags ledger : List ℕ} {used : ℕ} (m : Matching table
       rw (eq-eqb _ _ found.0) found.1
 
   -- and its flag is raised
-  pub matching_raised : (i : ℕ) → i < used → leads_in tables (tokens used ledger) i (token_at ledger i) ≡ true → get_or (flags_of flags) (earliest_of (tokens used ledger) (token_at ledger i).tag) 0 ≡ 1
+  pub matching_raised : (i : ℕ) → i < used → leads_in tables (tokens used ledger) i (token_at ledger i) ≡ true → get_or flags (earliest_of (tokens used ledger) (token_at ledger i).tag) 0 ≡ 1
   matching_raised i h e =
       let ts = tokens used ledger in
       let tag = (token_at ledger i).tag in
       let first : earliest_of ts tag ≡ i = eqb-true (earliest_of ts tag) i (and_left (eqb (earliest_of ts tag) i) (is_enabled tables ts tag) e) in
       let on = and_right (eqb (earliest_of ts tag) i) (is_enabled tables ts tag) e in
-      right_flag tables ts (flags_of flags) tag (omega (arith, length_rows token_width decode_token used ledger)) matching_stored.right ∙ ap bit on
+      right_flag tables ts flags tag (omega (arith, length_rows token_width decode_token used ledger)) matching_stored.right ∙ ap bit on
 
   -- the used records
   pub matching_room : used ≤ length ledger / token_width

@@ -37,7 +37,6 @@ matching_past len same bytes w =
           known = record { room = rw len s.known.room; index = rw same s.known.index; ports = rw same s.known.ports; single = rw same s.known.single; partners = rw same s.known.partners };
           bytes = bytes ∙ s.bytes ∙ ap (joined encode_token) (sym same);
           fits = rw same s.fits;
-          counted = s.counted;
           right = rw same s.right;
         };
         deferred = rw same w.inside.deferred;

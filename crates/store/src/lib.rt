@@ -8,7 +8,7 @@ ghost use Rattle.buffer.specs.Rows.{put_row, joined};
 ghost use Rattle.record.specs.TokensAndTags.{encode_token, tokens, stands_at};
 ghost use Rattle.record.specs.Widths.{token_width};
 ghost use Rattle.record.specs.declared.token.Content.TheVariants.{Live};
-ghost use Rattle.store_flags.specs.Flags.{places, flags_of, Counted};
+ghost use Rattle.store_flags.specs.Flags.{places};
 ghost use Rattle.store_chains.specs.Search.{first_from, FoundWithin};
 ghost use Rattle.store_chains.specs.Slots.{Open, SoughtAt};
 ghost use Rattle.store_chains.specs.Partners.{partner_at};
@@ -19,20 +19,20 @@ ghost use Rattle.store.specs.Matching.{Matching};
 use record::tag::Tag;
 use record::token;
 use record::token::{Content, Token};
-use store_chains::{Found, Links, Slot, Sought};
+use store_chains::{Links, Slot};
 use store_enabled::Tables;
 use store_flags::Flags;
 
 // The token that stands at a port of a tag.
-pub fn find(links: &Links, ledger: &[u8], used: usize, tag: Tag, port: u8) -> Found
+pub fn find(links: &Links, ledger: &[u8], used: usize, tag: Tag, port: u8) -> Option<usize>
     requires { Known links.now ledger.now used }
     ensures { (result ≡ first_from (stands_at tag port) 0 (tokens used ledger.now)) × FoundWithin result used }
 {
     store_chains::find(links, ledger, used, tag, port)
 }
 
-// Where a token may arrive at a port of a tag, or that one stands there.
-pub fn seek(links: &Links, ledger: &[u8], used: usize, tag: Tag, port: u8) -> Sought
+// Where a token may arrive at a port of a tag, or `None` if one stands there already.
+pub fn seek(links: &Links, ledger: &[u8], used: usize, tag: Tag, port: u8) -> Option<Slot>
     requires { Known links.now ledger.now used × (port < 2) }
     ensures { SoughtAt result (tokens used ledger.now) tag port }
 {
@@ -40,7 +40,7 @@ pub fn seek(links: &Links, ledger: &[u8], used: usize, tag: Tag, port: u8) -> So
 }
 
 // The place of the partner of the token at a place.
-pub fn partner(links: &Links, place: usize) -> Found
+pub fn partner(links: &Links, place: usize) -> Option<usize>
     requires { place < 2048 }
     ensures { result ≡ partner_at links.now place }
 {
@@ -49,22 +49,27 @@ pub fn partner(links: &Links, place: usize) -> Found
 
 // How many activities are enabled.
 pub fn enabled_count(flags: &Flags) -> usize
-    requires { Counted flags.now }
-    ensures { result ≡ length (places (flags_of flags.now)) }
+    ensures { result ≡ length (places flags.now) }
 {
-    store_flags::count(flags)
+    flags.count()
 }
 
 // The place of enabled activity number k, counted from 0.
 pub fn enabled_at(flags: &Flags, k: usize) -> usize
-    requires { Counted flags.now × (k < length (places (flags_of flags.now))) }
-    ensures { (result ≡ get_or (places (flags_of flags.now)) k 0) × (result < 2048) }
+    requires { k < length (places flags.now) }
+    ensures { (result ≡ get_or (places flags.now) k 0) × (result < 2048) }
 {
-    store_flags::select(flags, k)
+    flags.select(k)
 }
 
 // The place of the activity of a tag, if it is enabled.
-pub fn enabled_by_tag(tables: &Tables, links: &Links, ledger: &[u8], used: usize, tag: Tag) -> Found
+pub fn enabled_by_tag(
+    tables: &Tables,
+    links: &Links,
+    ledger: &[u8],
+    used: usize,
+    tag: Tag,
+) -> Option<usize>
     requires { Known links.now ledger.now used }
     ensures { (result ≡ enabled_at tables.now (tokens used ledger.now) tag) × FoundWithin result used }
 {
@@ -118,7 +123,7 @@ pub fn enter(
 // The operands of an enabled activity, at its place and at another, are spent; where one is waited for, both are its place. They were
 // live, so the chains of deferred tokens stay right.
 pub fn spend_operands(flags: &mut Flags, ledger: &mut [u8], place: usize, other: usize)
-    requires { Counted flags.old × (get_or (flags_of flags.old) place 0 ≡ 1) × (place < 2048) × (place < length ledger.old / token_width) × (other < length ledger.old / token_width) }
+    requires { (get_or flags.old place 0 ≡ 1) × (place < 2048) × (place < length ledger.old / token_width) × (other < length ledger.old / token_width) }
     ensures ledger_after { ledger.new ≡ states_spent ledger.old place other }
     ensures by_index { (tables links : List ℕ) (used : ℕ) → Matching tables links flags.old ledger.old used → Spendable ledger.old used place other
         → (tokens used ledger.new ≡ tokens_spent used ledger.old place other) × Matching tables links flags.new ledger.new used }
@@ -154,13 +159,12 @@ pub fn wake(
     ensures cases { Matching tables.now links.new flags.new ledger.new used }
 {
     let head = (cell as usize) + store_chains::WAITING;
-    let mut at = store_chains::wide(links[head]);
-    while at != 0 {
-        let i = at - 1;
+    let mut at = store_chains::place_at(links, head);
+    while let Some(i) = at {
         let t = token::token_at(ledger, i);
         let u = woken(t, v);
         store_enabled::change(tables, links, flags, ledger, used, i, u);
-        at = store_chains::wide(links[i + store_chains::LATER]);
+        at = store_chains::place_at(links, i + store_chains::LATER);
     }
     links[head] = 0;
 }
@@ -170,5 +174,5 @@ pub fn any_deferred(links: &Links, cell: usize) -> bool
     requires { cell < 1024 }
     ensures { (tables flags ledger : List ℕ) (used : ℕ) → Matching tables links.now flags ledger used → result ≡ Deferred.any_on cell (tokens used ledger) }
 {
-    links[cell + store_chains::WAITING] != 0
+    store_chains::place_at(links, cell + store_chains::WAITING).is_some()
 }

@@ -1,5 +1,5 @@
 -- Laws of the chains of deferred tokens: a walk along that of a cell wakes every token deferred on it. Assumes nothing.
-use Prim.Native.Nat.{ℕ, zero, suc, ◌+◌, ◌-◌, ◌≤◌, ◌<◌}
+use Prim.Native.Nat.{ℕ, zero, suc, ◌+◌, ◌≤◌, ◌<◌}
 use mathlib.Core.Path.{◌≡◌, refl, sym, ap, ◌∙◌}
 use mathlib.Core.Bool.{Bool, true, false, not, ◌||◌, cond}
 use mathlib.Core.List.{List, [], ◌∷◌, ◌++◌, map, append_assoc, append-nil}
@@ -13,6 +13,8 @@ use borrow.Author.Tests.{eqb-true, eqb-false, eq-eqb, ne_eqb}
 use Rattle.record.specs.declared.token.Token.{Token}
 use Rattle.record.specs.declared.token.Content.{Content}
 use Rattle.record.specs.declared.token.Content.TheVariants.{Live, Spent, Deferred}
+use Rattle.std.specs.Prelude.{is_some}
+use Rattle.store_chains.specs.Search.{found_of}
 use Rattle.store_chains.specs.Chains.{last_below, part, Linked, Chained}
 use Rattle.store_chains.specs.Deferred.{chain_of, cell_key, any_on, Waiting, content_woken, woken}
 use Rattle.store_chains.proofs.Parts.{part_set, part_before}
@@ -116,18 +118,15 @@ module _ (cell : ℕ) (v : ℤ) where
           so_far = rw h (above_none (woken cell v) ts ∙ above_skip (woken cell v) ts (suc cell) ks d (passes ts d) (length ts) (omega arith));
         }
 
-    pub walk_step : (us : List Token) (at : ℕ) → (at ≡ 0 → ⊥) → Walk ts us at
-        → (get_or links (at - 1 + 7168) 0 < at) × Walk ts (set us (at - 1) (woken cell v (get_or us (at - 1) d))) (get_or links (at - 1 + 7168) 0)
-    walk_step us zero z m = absurd (z refl)
-    walk_step us (suc i) z m =
+    pub walk_step : (us : List Token) (i : ℕ) → Walk ts us (suc i)
+        → (get_or links (i + 7168) 0 < suc i) × Walk ts (set us i (woken cell v (get_or us i d))) (get_or links (i + 7168) 0)
+    walk_step us i m =
         let ks = map cell_key ts in
         let g : i < length ts = m.low in
         let h = walk_next 6144 1024 cell_key links ts w cell small i m.on in
         let below = next_below 6144 1024 cell_key links ts w cell small i m.on in
-        let e : suc i - 1 ≡ i = omega arith in
         let u : get_or us i d ≡ get_or ts i d = ap (λ (q : List Token). get_or q i d) m.so_far ∙ above_at (woken cell v) ts (suc i) i d (omega arith) g in
-        let s : set us i (woken cell v (get_or us i d)) ≡ above (woken cell v) ts i = rw (u, m.so_far) (above_step (woken cell v) ts i d g) in
-        rw e (
+        let s : set us i (woken cell v (get_or us i d)) ≡ above (woken cell v) ts i = rw (u, m.so_far) (above_step (woken cell v) ts i d g) in (
           omega arith,
           record {
             on = on_next 6144 1024 cell_key links ts w cell small i m.on;
@@ -137,14 +136,12 @@ module _ (cell : ℕ) (v : ℤ) where
         )
 
     -- the token that the walk is at is deferred on the cell
-    pub walk_own : (us : List Token) (at : ℕ) → (at ≡ 0 → ⊥) → Walk ts us at → content_woken cell v (get_or us (at - 1) d).content ≡ Live v
-    walk_own us zero z m = absurd (z refl)
-    walk_own us (suc i) z m =
+    pub walk_own : (us : List Token) (i : ℕ) → Walk ts us (suc i) → content_woken cell v (get_or us i d).content ≡ Live v
+    walk_own us i m =
         let g : i < length ts = m.low in
-        let e : suc i - 1 ≡ i = omega arith in
         let u : get_or us i d ≡ get_or ts i d = ap (λ (q : List Token). get_or q i d) m.so_far ∙ above_at (woken cell v) ts (suc i) i d (omega arith) g in
         let key : cell_key (get_or ts i d) ≡ suc cell = sym (key_at_lem cell_key ts i d g) ∙ on_key 6144 1024 cell_key links ts w cell small i m.on in
-        rw (e, u) (content_own (get_or ts i d).content key)
+        rw u (content_own (get_or ts i d).content key)
 
     pub walk_end : (us : List Token) → Walk ts us 0 → us ≡ map (woken cell v) ts
     walk_end us m = m.so_far ∙ above_all (woken cell v) ts
@@ -250,9 +247,13 @@ last_some b ks (suc n) i h e = go (eqb (get_or ks n 0) b) refl (λ k. last_some 
         below true w z = absurd (z (rw (← eqb-true i n w) e))
         below false w z = omega (arith, eqb-false i n w)
 
-pub any_on_lem : (cell : ℕ) (links : List ℕ) (ts : List Token) → Waiting links ts → cell < 1024 → not (eqb (get_or links (cell + 6144) 0) 0) ≡ any_on cell ts
-any_on_lem cell links ts w small = rw (walk_first 6144 1024 cell_key links ts w cell small) (go (any_on cell ts) refl)
+pub any_on_lem : (cell : ℕ) (links : List ℕ) (ts : List Token) → Waiting links ts → cell < 1024 → is_some (found_of (get_or links (cell + 6144) 0)) ≡ any_on cell ts
+any_on_lem cell links ts w small = there (get_or links (cell + 6144) 0) ∙ rw (walk_first 6144 1024 cell_key links ts w cell small) (go (any_on cell ts) refl)
   where
+    there : (at : ℕ) → is_some (found_of at) ≡ not (eqb at 0)
+    there zero = refl
+    there (suc i) = rw (ne_eqb (suc i) 0 (λ z. omega arith))
+
     go : (b : Bool) → any_on cell ts ≡ b → not (eqb (last_below (suc cell) (map cell_key ts) (length ts)) 0) ≡ b
     go false e = rw (last_none (suc cell) (map cell_key ts) (length ts) (none_on cell ts e))
     go true e = let (i, h, k) = some_on cell ts e in rw (ne_eqb (last_below (suc cell) (map cell_key ts) (length ts)) 0 (λ z. omega (arith, last_some (suc cell) (map cell_key ts) (length ts) i h k)))

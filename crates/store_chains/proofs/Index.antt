@@ -15,10 +15,10 @@ use Rattle.record.specs.declared.tag.Tag.{Tag}
 use Rattle.record.specs.declared.token.Token.{Token}
 use Rattle.record.proofs.Paths.{same_path_lem, path_same}
 use Rattle.record.specs.Widths.{token_width}
-use Rattle.store_chains.specs.declared.Found.TheVariants.{At, Nothing}
-use Rattle.store_chains.specs.Search.{first_from, found_of, is_found, FoundWithin, Single}
+use Rattle.std.specs.Prelude.{Option, Some, None, is_some}
+use Rattle.store_chains.specs.Search.{first_from, found_of, FoundWithin, Single}
 use Rattle.store_chains.specs.Chains.{bucket_of, bucket_key, last_below, Indexed}
-use Rattle.store_chains.proofs.Walks.{Walk, earliest, stands}
+use Rattle.store_chains.proofs.Walks.{Walk, link_of, link_found, earliest, stands}
 use Rattle.store_chains.proofs.Search.{first_step, first_end, first_within_lem, first_some, all_at}
 use Rattle.store_chains.proofs.Chains.{key_at_lem, walk_first, on_first, walk_next, next_below, on_next}
 
@@ -132,26 +132,25 @@ module _ (l : List ℕ) (n : ℕ) (tag : Tag) (port : ℕ) where
     keys = length-map (tokens n l) bucket_key ∙ length_rows token_width decode_token n l
 
     -- from the head of the tag's chain
-    pub walk_start : Walk l n tag port (get_or links (bucket_of tag) 0) 0
-    walk_start =
+    pub walk_start : (first : Option ℕ) → first ≡ found_of (get_or links (bucket_of tag) 0) → Walk l n tag port (link_of first) 0
+    walk_start first e =
         let b = bucket_of tag in
         let small = bucket_low tag in
         let here : b + 0 ≡ b = omega arith in
         let on = rw here at (on_first 0 4096 bucket_key links (tokens n l) w b small) in
         let h : get_or links b 0 ≡ last_below (suc b) keys_of n = (rw here at (walk_first 0 4096 bucket_key links (tokens n l) w b small)) ∙ rw (length_rows token_width decode_token n l) in
-        record { on = on; low = omega (arith, on.below, keys); same = rw h (earliest_skip (stands l tag port) (suc b) keys_of n 0 (in_bucket n (omega arith))) }
+        rw (e, link_found (get_or links b 0)) (record { on = on; low = omega (arith, on.below, keys); same = rw h (earliest_skip (stands l tag port) (suc b) keys_of n 0 (in_bucket n (omega arith))) })
 
-    pub walk_step : (at best : ℕ) → (at ≡ 0 → ⊥) → Walk l n tag port at best
-        → (get_or links (at - 1 + 4096) 0 < at) × Walk l n tag port (get_or links (at - 1 + 4096) 0) (cond (stands l tag port (at - 1)) at best)
-    walk_step zero best z v = absurd (z refl)
-    walk_step (suc i) best z v =
+    -- from a place of it to the next
+    pub walk_step : (i best : ℕ) (next : Option ℕ) → next ≡ found_of (get_or links (i + 4096) 0) → Walk l n tag port (suc i) best
+        → (link_of next < suc i) × Walk l n tag port (link_of next) (cond (stands l tag port i) (suc i) best)
+    walk_step i best next e v =
         let b = bucket_of tag in
         let small = bucket_low tag in
         let on = v.on in
         let h = walk_next 0 4096 bucket_key links (tokens n l) w b small i on in
         let below = next_below 0 4096 bucket_key links (tokens n l) w b small i on in
-        let d : suc i - 1 ≡ i = omega arith in
-        rw d (
+        rw (e, link_found (get_or links (i + 4096) 0)) (
           omega arith,
           record {
             on = on_next 0 4096 bucket_key links (tokens n l) w b small i on;
@@ -164,11 +163,11 @@ module _ (l : List ℕ) (n : ℕ) (tag : Tag) (port : ℕ) where
   walk_end best v = ap found_of (sym v.same) ∙ scan_found (stands_at tag port) n l
 
   -- a walk that met none
-  pub walk_none : Walk l n tag port 0 0 → first_from (stands_at tag port) 0 (tokens n l) ≡ Nothing
+  pub walk_none : Walk l n tag port 0 0 → first_from (stands_at tag port) 0 (tokens n l) ≡ None
   walk_none v = sym (walk_end 0 v)
 
   -- or that met one, and no two stand there
-  pub walk_met : Single (tokens n l) → (i : ℕ) → i < n → stands l tag port i ≡ true → first_from (stands_at tag port) 0 (tokens n l) ≡ At i
+  pub walk_met : Single (tokens n l) → (i : ℕ) → i < n → stands l tag port i ≡ true → first_from (stands_at tag port) 0 (tokens n l) ≡ Some i
   unfolding Single
   walk_met single i h e =
       let d = token_at l i in
@@ -179,29 +178,29 @@ module _ (l : List ℕ) (n : ℕ) (tag : Tag) (port : ℕ) where
 
 -- ---- a walk that asks for both ports
 
-module _ (l : List ℕ) (n : ℕ) (tag : Tag) (port : ℕ) (low : port < 2) (links : List ℕ) (w : Indexed links (tokens n l)) (at partner : ℕ) (some : at ≡ 0 → ⊥) (own : Walk l n tag port at 0) (other : Walk l n tag (1 - port) at partner) where
+module _ (l : List ℕ) (n : ℕ) (tag : Tag) (port : ℕ) (low : port < 2) (links : List ℕ) (w : Indexed links (tokens n l)) (i partner : ℕ) (next : Option ℕ) (step : next ≡ found_of (get_or links (i + 4096) 0)) (own : Walk l n tag port (suc i) 0) (other : Walk l n tag (1 - port) (suc i) partner) where
   -- the record at hand has another tag
-  pub seek_past : same_tag (token_at l (at - 1)).tag tag ≡ false
-      → (get_or links (at - 1 + 4096) 0 < at) × Walk l n tag port (get_or links (at - 1 + 4096) 0) 0 × Walk l n tag (1 - port) (get_or links (at - 1 + 4096) 0) partner
+  pub seek_past : same_tag (token_at l i).tag tag ≡ false
+      → (link_of next < suc i) × Walk l n tag port (link_of next) 0 × Walk l n tag (1 - port) (link_of next) partner
   seek_past e =
-      let t = token_at l (at - 1) in
-      let s = walk_step l n tag port links w at 0 some own in
-      let u = walk_step l n tag (1 - port) links w at partner some other in
+      let t = token_at l i in
+      let s = walk_step l n tag port links w i 0 next step own in
+      let u = walk_step l n tag (1 - port) links w i partner next step other in
       (s.0, rw (stands_off tag port t e) at s.1, rw (stands_off tag (1 - port) t e) at u.1)
 
   -- or it is the partner
-  pub seek_partner : (token_at l (at - 1)).port < 2 → same_tag (token_at l (at - 1)).tag tag ≡ true → ((token_at l (at - 1)).port ≡ port → ⊥)
-      → (get_or links (at - 1 + 4096) 0 < at) × Walk l n tag port (get_or links (at - 1 + 4096) 0) 0 × Walk l n tag (1 - port) (get_or links (at - 1 + 4096) 0) at
+  pub seek_partner : (token_at l i).port < 2 → same_tag (token_at l i).tag tag ≡ true → ((token_at l i).port ≡ port → ⊥)
+      → (link_of next < suc i) × Walk l n tag port (link_of next) 0 × Walk l n tag (1 - port) (link_of next) (suc i)
   seek_partner h e apart =
-      let t = token_at l (at - 1) in
+      let t = token_at l i in
       let both = stands_other_port tag port t low h e apart in
-      let s = walk_step l n tag port links w at 0 some own in
-      let u = walk_step l n tag (1 - port) links w at partner some other in
+      let s = walk_step l n tag port links w i 0 next step own in
+      let u = walk_step l n tag (1 - port) links w i partner next step other in
       (s.0, rw both.0 at s.1, rw both.1 at u.1)
 
 -- the record at hand is of the tag and on the port: a search finds one
 pub seek_taken : (l : List ℕ) (n : ℕ) (tag : Tag) (port i : ℕ) → i < n → same_tag (token_at l i).tag tag ≡ true → (token_at l i).port ≡ port
-    → is_found (first_from (stands_at tag port) 0 (tokens n l)) ≡ true
+    → is_some (first_from (stands_at tag port) 0 (tokens n l)) ≡ true
 unfolding stands_at
 seek_taken l n tag port i h e p =
     let d = token_at l i in

@@ -11,8 +11,7 @@ use lib.Seq.{get_or-set_same, get_or-set_other}
 use Rattle.record.specs.TokensAndTags.{stands_at}
 use Rattle.record.specs.declared.tag.Tag.{Tag}
 use Rattle.record.specs.declared.token.Token.{Token}
-use Rattle.store_chains.specs.declared.Found.{Found}
-use Rattle.store_chains.specs.declared.Found.TheVariants.{At, Nothing}
+use Rattle.std.specs.Prelude.{Option, Some, None}
 use Rattle.store_chains.specs.declared.Slot.{Slot}
 use Rattle.store_chains.specs.Search.{first_from, found_of, FoundWithin, Single}
 use Rattle.store_chains.specs.Slots.{Open}
@@ -67,38 +66,38 @@ partnered_set links ts w j u x h e g = record {
 
 -- ---- a token arrives beside its partner
 
-found_one : (i : ℕ) → found_of (i + 1) ≡ At i
-found_one i = let back : i + 1 - 1 ≡ i = omega arith in sym (found_some (i + 1) (λ z. omega arith)) ∙ ap At back
+found_one : (i : ℕ) → found_of (i + 1) ≡ Some i
+found_one i = let back : i + 1 - 1 ≡ i = omega arith in sym (found_some (i + 1) (λ z. omega arith)) ∙ ap Some back
 
 module _ (links : List ℕ) (n : ℕ) where
   -- all that were there and are not found have what they had
-  pub paired_past : (f : Found) (i : ℕ) → i < n → (f ≡ At i → ⊥) → partner_at (paired links n f) i ≡ partner_at links i
-  paired_past (At j) i h apart =
-      let from : i + 9216 ≡ j + 9216 → ⊥ = λ q. apart (ap At (omega arith)) in
+  pub paired_past : (f : Option ℕ) (i : ℕ) → i < n → (f ≡ Some i → ⊥) → partner_at (paired links n f) i ≡ partner_at links i
+  paired_past (Some j) i h apart =
+      let from : i + 9216 ≡ j + 9216 → ⊥ = λ q. apart (ap Some (omega arith)) in
       rw (get_or-set_other (set links (n + 9216) (j + 1)) (j + 9216) (i + 9216) (n + 1) 0 from, get_or-set_other links (n + 9216) (i + 9216) (j + 1) 0 (λ q. omega arith))
-  paired_past Nothing i h apart = ap found_of (get_or-set_other links (n + 9216) (i + 9216) 0 0 (λ q. omega arith))
+  paired_past None i h apart = ap found_of (get_or-set_other links (n + 9216) (i + 9216) 0 0 (λ q. omega arith))
 
   -- and every chain
-  pub paired_chained : (from size : ℕ) (key : Token → ℕ) (ts : List Token) → from + size + 2048 ≤ 9216 → Chained from size key links ts → (f : Found)
+  pub paired_chained : (from size : ℕ) (key : Token → ℕ) (ts : List Token) → from + size + 2048 ≤ 9216 → Chained from size key links ts → (f : Option ℕ)
       → Chained from size key (paired links n f) ts
-  paired_chained from size key ts h w (At i) =
+  paired_chained from size key ts h w (Some i) =
       chained_past from size key (set links (n + 9216) (i + 1)) ts (chained_past from size key links ts w (n + 9216) (i + 1) (omega arith)) (i + 9216) (n + 1) (omega arith)
-  paired_chained from size key ts h w Nothing = chained_past from size key links ts w (n + 9216) 0 (omega arith)
+  paired_chained from size key ts h w None = chained_past from size key links ts w (n + 9216) 0 (omega arith)
 
-  pub paired_length : (f : Found) → length (paired links n f) ≡ length links
-  paired_length (At i) = length-set (set links (n + 9216) (i + 1)) (i + 9216) (n + 1) ∙ length-set links (n + 9216) (i + 1)
-  paired_length Nothing = length-set links (n + 9216) 0
+  pub paired_length : (f : Option ℕ) → length (paired links n f) ≡ length links
+  paired_length (Some i) = length-set (set links (n + 9216) (i + 1)) (i + 9216) (n + 1) ∙ length-set links (n + 9216) (i + 1)
+  paired_length None = length-set links (n + 9216) 0
 
   module _ (few : n < 2048) (room : 11264 ≤ length links) where
     -- what a search found is beside the token
-    pub paired_own : (f : Found) → FoundWithin f n → partner_at (paired links n f) n ≡ f
-    paired_own (At i) h =
+    pub paired_own : (f : Option ℕ) → FoundWithin f n → partner_at (paired links n f) n ≡ f
+    paired_own (Some i) h =
         let apart : n + 9216 ≡ i + 9216 → ⊥ = λ q. omega arith in
         rw (get_or-set_other (set links (n + 9216) (i + 1)) (i + 9216) (n + 9216) (n + 1) 0 apart, get_or-set_same links (n + 9216) (i + 1) 0 (omega arith)) (found_one i)
-    paired_own Nothing h = ap found_of (get_or-set_same links (n + 9216) 0 0 (omega arith))
+    paired_own None h = ap found_of (get_or-set_same links (n + 9216) 0 0 (omega arith))
 
     -- and the token beside what was found
-    pub paired_other : (i : ℕ) → i < n → partner_at (paired links n (At i)) i ≡ At n
+    pub paired_other : (i : ℕ) → i < n → partner_at (paired links n (Some i)) i ≡ Some n
     paired_other i h = rw (get_or-set_same (set links (n + 9216) (i + 1)) (i + 9216) (n + 1) 0 (omega (arith, length-set links (n + 9216) (i + 1)))) (found_one n)
 
 module _ (links : List ℕ) (ts : List Token) (t : Token) (n : ℕ) (len : length ts ≡ n) (few : n < 2048) (s : Slot) (b : Beside links ts t s) where
@@ -138,11 +137,11 @@ module _ (links : List ℕ) (ts : List Token) (t : Token) (n : ℕ) (len : lengt
       go true q =
           let st = stands_is g (1 - p) t q in
           let back : 1 - t.port ≡ p = omega (arith, st.1, p_low) in
-          let found : s.partner ≡ At i = o.partner ∙ rw (st.0, back) (b.single i d h) in
-          let free : first_from (stands_at g (1 - p)) 0 ts ≡ Nothing = rw (st.0, st.1) at o.free in
-          ap (λ (f : Found). partner_at (paired links n f) i) found ∙ paired_other links n few w.room i (omega arith) ∙ sym (first_added (stands_at g (1 - p)) t ts free q ∙ ap At len)
+          let found : s.partner ≡ Some i = o.partner ∙ rw (st.0, back) (b.single i d h) in
+          let free : first_from (stands_at g (1 - p)) 0 ts ≡ None = rw (st.0, st.1) at o.free in
+          ap (λ (f : Option ℕ). partner_at (paired links n f) i) found ∙ paired_other links n few w.room i (omega arith) ∙ sym (first_added (stands_at g (1 - p)) t ts free q ∙ ap Some len)
       go false q =
-          let apart : s.partner ≡ At i → ⊥ = λ z.
+          let apart : s.partner ≡ Some i → ⊥ = λ z.
           let st = stands_is t.tag (1 - t.port) (get_or ts i d) (first_passes (stands_at t.tag (1 - t.port)) d ts i (sym o.partner ∙ z)) in
           let there : stands_at g (1 - p) t ≡ true = stands_own g (1 - p) t (sym st.0) (omega (arith, st.1, b.low)) in
           let none : false ≡ true = sym q ∙ there in

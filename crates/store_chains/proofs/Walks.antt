@@ -1,11 +1,13 @@
 -- A walk along a chain, from its last place to its first. Assumes nothing.
 use Prim.Native.Nat.{ℕ, zero, suc, ◌≤◌}
-use mathlib.Core.Path.{◌≡◌}
+use mathlib.Core.Path.{◌≡◌, refl}
 use mathlib.Core.Bool.{Bool, cond}
 use mathlib.Core.List.{List, map}
 use lib.ListN.{length}
+use Rattle.std.specs.Prelude.{Option, Some, None}
 use Rattle.record.specs.TokensAndTags.{tokens, token_at, stands_at}
 use Rattle.record.specs.declared.tag.Tag.{Tag}
+use Rattle.store_chains.specs.Search.{found_of}
 use Rattle.store_chains.specs.Chains.{bucket_of, bucket_key, last_below}
 
 -- `at` is a place + 1 of chain c, or 0 at its end
@@ -13,6 +15,19 @@ pub record On (c : ℕ) (ks : List ℕ) (at : ℕ) : Type 0 where
   pub below : at ≤ length ks
   pub small : at ≤ 2048
   pub here : at ≡ last_below (suc c) ks at
+
+-- a place as a chain has it: place + 1, and 0 for none. `found_of` is the way back
+abbrev pub link_of : Option ℕ → ℕ
+link_of None = 0
+link_of (Some i) = suc i
+
+pub link_found : (n : ℕ) → link_of (found_of n) ≡ n
+link_found zero = refl
+link_found (suc i) = refl
+
+pub found_link : (f : Option ℕ) → found_of (link_of f) ≡ f
+found_link None = refl
+found_link (Some i) = refl
 
 -- 1 + the first of n places that passes a test, or what was found past them
 abbrev pub earliest : (ℕ → Bool) → (n : ℕ) → (past : ℕ) → ℕ

@@ -4,7 +4,7 @@
 
 ghost use Rattle.std.specs.Prelude.{◌≡◌, List, [], ◌∷◌, ◌++◌, ◌+◌, ◌/◌, ◌≤◌, ◌<◌, length, get_or, set};
 ghost use Rattle.buffer.specs.Rows.{All};
-ghost use Rattle.record.specs.TokensAndTags.{tokens, same_tag, stands_at};
+ghost use Rattle.record.specs.TokensAndTags.{tokens, stands_at};
 ghost use Rattle.record.specs.Widths.{token_width};
 ghost use Rattle.store_chains.specs.Search.{first_from, found_of, FoundWithin, Single};
 ghost use Rattle.store_chains.specs.Chains.{mix, bucket_of, Indexed};
@@ -19,6 +19,7 @@ use record::token::{Content, Token};
 // All chains of a ledger.
 pub const LENGTH: usize = 11264;
 
+// No Option in the array: a u16 has place + 1 and 0 for none, in fixed memory that begins as zeros. `place_at` reads it.
 pub type Links = [u16; LENGTH];
 
 // Heads by tag from 0 on, and for each place the link to the one before it.
@@ -32,31 +33,11 @@ pub const LATER: usize = 7168;
 // For each place that of its partner, as place + 1 and 0 for none.
 const PARTNER: usize = 9216;
 
-// The place of what a search finds.
-#[derive(Clone, Copy)]
-pub enum Found {
-    At(usize),
-    Nothing,
-}
-
 // Where a token may arrive: the chain of its tag, and its partner, which stands on the other port of the tag.
 #[derive(Clone, Copy)]
 pub struct Slot {
     pub bucket: usize,
-    pub partner: Found,
-}
-
-// What a search finds that asks where a token may arrive.
-#[derive(Clone, Copy)]
-pub enum Sought {
-    Free(Slot),
-    Taken,
-}
-
-pub fn wide(x: u16) -> usize
-    ensures { result ≡ x }
-{
-    x as usize
+    pub partner: Option<usize>,
 }
 
 // A product spreads what stands in each half over the bits from 2^20 on.
@@ -75,65 +56,50 @@ fn bucket(tag: Tag) -> usize
     (sum % 4096) as usize
 }
 
-fn has_tag(t: Token, tag: Tag) -> bool
-    ensures { result ≡ same_tag t.tag tag }
+// The place at an index of the chains, where it stands as place + 1, and 0 for none.
+pub fn place_at(links: &Links, index: usize) -> Option<usize>
+    requires { index < 11264 }
+    ensures { result ≡ found_of (get_or links.now index 0) }
 {
-    let own = t.tag;
-    own.same(tag)
-}
-
-// The answer of a place + 1, or 0 for none.
-fn found_of(best: usize) -> Found
-    ensures { result ≡ found_of best }
-{
-    if best == 0 {
-        Found::Nothing
-    } else {
-        Found::At(best - 1)
-    }
+    (links[index] as usize).checked_sub(1)
 }
 
 // The used record that stands at a port of a tag. No two do, so the walk along the tag's chain ends with the first that it meets.
-pub fn find(links: &Links, ledger: &[u8], used: usize, tag: Tag, port: u8) -> Found
+pub fn find(links: &Links, ledger: &[u8], used: usize, tag: Tag, port: u8) -> Option<usize>
     requires { (used ≤ length ledger.now / token_width) × Indexed links.now (tokens used ledger.now) × Single (tokens used ledger.now) }
     ensures { (result ≡ first_from (stands_at tag port) 0 (tokens used ledger.now)) × FoundWithin result used }
 {
-    let mut at = wide(links[bucket(tag)]);
-    while at != 0 {
-        let i = at - 1;
+    let mut at = place_at(links, bucket(tag));
+    while let Some(i) = at {
         let t = token::token_at(ledger, i);
         if token::stands_at(t, tag, port) {
-            return Found::At(i);
+            return Some(i);
         }
-        at = wide(links[i + NEXT]);
+        at = place_at(links, i + NEXT);
     }
-    Found::Nothing
+    None
 }
 
-// Where a token may arrive at a port of a tag, or that one stands there. One walk along the tag's chain finds both: a record of the
+// Where a token may arrive at a port of a tag, or `None` if one stands there already. One walk along the tag's chain finds both: a record of the
 // tag that is not on the port is on the other. A chain goes from the last record to the first, so it is walked to its end.
-pub fn seek(links: &Links, ledger: &[u8], used: usize, tag: Tag, port: u8) -> Sought
+pub fn seek(links: &Links, ledger: &[u8], used: usize, tag: Tag, port: u8) -> Option<Slot>
     requires { (used ≤ length ledger.now / token_width) × Indexed links.now (tokens used ledger.now) × (port < 2) × All (λ (t : Token). t.port < 2) (tokens used ledger.now) }
     ensures { SoughtAt result (tokens used ledger.now) tag port }
 {
     let b = bucket(tag);
-    let mut at = wide(links[b]);
-    let mut partner = 0;
-    while at != 0 {
-        let i = at - 1;
+    let mut at = place_at(links, b);
+    let mut partner = None;
+    while let Some(i) = at {
         let t = token::token_at(ledger, i);
-        if has_tag(t, tag) {
+        if t.tag == tag {
             if t.port == port {
-                return Sought::Taken;
+                return None;
             }
-            partner = at;
+            partner = Some(i);
         }
-        at = wide(links[i + NEXT]);
+        at = place_at(links, i + NEXT);
     }
-    Sought::Free(Slot {
-        bucket: b,
-        partner: found_of(partner),
-    })
+    Some(Slot { bucket: b, partner })
 }
 
 // Puts place `used` at the head of a chain: its link is at `link`, the head at `head`.
@@ -147,27 +113,27 @@ fn link(links: &mut Links, head: usize, link: usize, used: usize)
 }
 
 // Puts the token at place `used` and its partner, where it has one, beside each other.
-fn pair(links: &mut Links, used: usize, partner: Found)
+fn pair(links: &mut Links, used: usize, partner: Option<usize>)
     requires { (used < 2048) × FoundWithin partner used }
     ensures { links.new ≡ paired links.old used partner }
 {
     match partner {
-        Found::At(i) => {
+        Some(i) => {
             links[used + PARTNER] = (i + 1) as u16;
             links[i + PARTNER] = (used + 1) as u16;
         }
-        Found::Nothing => {
+        None => {
             links[used + PARTNER] = 0;
         }
     }
 }
 
 // The place of the partner of the token at a place.
-pub fn partner(links: &Links, place: usize) -> Found
+pub fn partner(links: &Links, place: usize) -> Option<usize>
     requires { place < 2048 }
     ensures { result ≡ partner_at links.now place }
 {
-    found_of(wide(links[place + PARTNER]))
+    place_at(links, place + PARTNER)
 }
 
 // Enters a token that stands at place `used`, after those before it: in the chain of its tag, beside its partner and, if it is deferred, in

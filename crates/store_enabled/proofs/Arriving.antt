@@ -1,6 +1,7 @@
 -- Laws of a token that arrives or is changed. Where its tag is not enabled then, the flags stay. Its own record is the first on its port, so what is found
 -- on the other port says where the activity of its tag stands and whether it is ready. Assumes nothing.
-use Prim.Native.Nat.{ℕ, zero, suc, ◌+◌, ◌-◌, ◌/◌, ◌≤◌, ◌<◌}
+use Rattle.std.proofs.Math.Nat.{min-eq_left, min-eq_right, min_comm}
+use Prim.Native.Nat.{ℕ, zero, suc, ◌+◌, ◌-◌, ◌/◌, ◌≤◌, ◌<◌, min}
 use mathlib.Core.Path.{◌≡◌, refl, sym, ap, ◌∙◌}
 use mathlib.Core.Bool.{Bool, true, false, ◌&&◌, cond, and-false}
 use mathlib.Core.List.{List, [], ◌∷◌, ◌++◌}
@@ -20,14 +21,13 @@ use Rattle.record.specs.declared.token.Content.{Content}
 use Rattle.record.specs.declared.token.Content.TheVariants.{Live, Spent, Deferred}
 use Rattle.store_flags.specs.Marks.{bit, first_of}
 use Rattle.store_flags.proofs.Marks.{marked_past}
-use Rattle.store_chains.specs.declared.Found.{Found}
-use Rattle.store_chains.specs.declared.Found.TheVariants.{At, Nothing}
+use Rattle.std.specs.Prelude.{Option, Some, None, unwrap_or}
 use Rattle.store_chains.specs.Search.{first_from, FoundWithin, Free}
 use Rattle.store_chains.proofs.Search.{within_more}
 use Rattle.store_chains.proofs.Index.{and_left, and_right, stands_same, found_within}
 use Rattle.store_enabled.specs.Enabled.{is_live_record, live_on, operands_live, arity_of, is_enabled, tag_of, tags_in, tag_same, earliest_of}
-use Rattle.store_enabled.specs.Store.{Right, raised_if, place_or, lower, live_found, ready_of, ready_with, Last}
-use Rattle.store_enabled.proofs.Places.{stands_other, live_found_lem, first_place, lower_first, lower_second}
+use Rattle.store_enabled.specs.Store.{Right, raised_if, live_found, ready_of, ready_with, Last}
+use Rattle.store_enabled.proofs.Places.{stands_other, live_found_lem, first_place}
 use Rattle.store_enabled.proofs.Right.{all_off, first_append, tags_append_lem, stays, place_set, place_kept, right_flag}
 
 -- ---- a tag that is not enabled
@@ -211,30 +211,16 @@ pub no_operand : (b : Bool) → false ≡ b && false
 no_operand true = refl
 no_operand false = refl
 
--- ---- the lower of two places, where one may be missing
+-- ---- the earlier of two places, where one may be missing
 
-lower_le : (a b : ℕ) → a ≤ b → lower a b ≡ a
-lower_le a b h = go (dec_le (suc a) b)
-  where
-    go : Dec (suc a ≤ b) → lower a b ≡ a
-    go (yes l) = lower_first a b l
-    go (no z) = lower_second a b (omega arith) ∙ omega arith
-
-lower_turned : (a b : ℕ) → lower b a ≡ lower a b
-lower_turned a b = go (dec_le (suc a) b)
-  where
-    go : Dec (suc a ≤ b) → lower b a ≡ lower a b
-    go (yes l) = lower_second b a (omega arith) ∙ sym (lower_first a b l)
-    go (no z) = lower_le b a (omega arith) ∙ sym (lower_second a b (omega arith))
-
-lower_own : (f : Found) (i n : ℕ) → i < n → lower i (place_or f n) ≡ lower i (place_or f i)
-lower_own (At j) i n h = refl
-lower_own Nothing i n h = lower_first i n h ∙ sym (lower_second i i (omega arith))
+min_own : (f : Option ℕ) (i n : ℕ) → i < n → min i (unwrap_or f n) ≡ min i (unwrap_or f i)
+min_own (Some j) i n h = refl
+min_own None i n h = min-eq_left (omega arith) ∙ sym (min-eq_left (omega arith))
 
 -- what stands at place i or before it is no later than i
-partner_place : (f : Found) (i : ℕ) → FoundWithin f (i + 1) → (lower i (place_or f i) ≡ place_or f i) × (place_or f i < i + 1)
-partner_place (At j) i w = (lower_second i j (omega arith), w)
-partner_place Nothing i w = (lower_second i i (omega arith), omega arith)
+partner_place : (f : Option ℕ) (i : ℕ) → FoundWithin f (i + 1) → (min i (unwrap_or f i) ≡ unwrap_or f i) × (unwrap_or f i < i + 1)
+partner_place (Some j) i w = (min-eq_right (omega arith), w)
+partner_place None i w = (min-eq_right (omega arith), omega arith)
 
 -- no operands are never all live
 pub none_live : (n : ℕ) (ts : List Token) (tag : Tag) → n ≡ 0 → operands_live n ts tag ≡ false
@@ -242,36 +228,36 @@ unfolding operands_live
 none_live n ts tag e = rw e
 
 -- the record at i is the first on a port of a tag, and `other` is what the other port has
-module _ (tag : Tag) (port i n : ℕ) (m : List ℕ) (h : i < n) (low : port < 2) (own : first_from (stands_at tag port) 0 (tokens n m) ≡ At i) (other : Found) (found : other ≡ first_from (stands_at tag (1 - port)) 0 (tokens n m)) where
-  abbrev at : (port : ℕ) → Found
+module _ (tag : Tag) (port i n : ℕ) (m : List ℕ) (h : i < n) (low : port < 2) (own : first_from (stands_at tag port) 0 (tokens n m) ≡ Some i) (other : Option ℕ) (found : other ≡ first_from (stands_at tag (1 - port)) 0 (tokens n m)) where
+  abbrev at : (port : ℕ) → Option ℕ
   at p = first_from (stands_at tag p) 0 (tokens n m)
 
   -- what a search of each port would find
-  both : (b : Bool) → eqb port 0 ≡ b → (at 0 ≡ cond b (At i) other) × (at 1 ≡ cond b other (At i))
+  both : (b : Bool) → eqb port 0 ≡ b → (at 0 ≡ cond b (Some i) other) × (at 1 ≡ cond b other (Some i))
   both true e = let z = eqb-true port 0 e in (rw z at own, sym (rw z at found))
   both false e =
       let z : port ≡ 1 = omega (arith, eqb-false port 0 e) in
       (sym (rw z at found), rw z at own)
 
-  pub own_place : All (λ (x : Token). x.port < 2) (tokens n m) → earliest_of (tokens n m) tag ≡ lower i (place_or other i)
+  pub own_place : All (λ (x : Token). x.port < 2) (tokens n m) → earliest_of (tokens n m) tag ≡ min i (unwrap_or other i)
   own_place ports =
       let b = eqb port 0 in
       first_place tag n m ports ∙ rw ((both b refl).0, (both b refl).1) (go b)
     where
-      go : (b : Bool) → lower (place_or (cond b (At i) other) n) (place_or (cond b other (At i)) n) ≡ lower i (place_or other i)
-      go true = lower_own other i n h
-      go false = lower_turned i (place_or other n) ∙ lower_own other i n h
+      go : (b : Bool) → min (unwrap_or (cond b (Some i) other) n) (unwrap_or (cond b other (Some i)) n) ≡ min i (unwrap_or other i)
+      go true = min_own other i n h
+      go false = min_comm (unwrap_or other n) i ∙ min_own other i n h
 
-  pub own_ready : (k : ℕ) → ready_with k port (live_found (token_at m) (At i)) (live_found (token_at m) other) ≡ operands_live k (tokens n m) tag
+  pub own_ready : (k : ℕ) → ready_with k port (live_found (token_at m) (Some i)) (live_found (token_at m) other) ≡ operands_live k (tokens n m) tag
   unfolding operands_live
   own_ready k =
       let b = eqb port 0 in
       go b ∙ rw (← (both b refl).0, ← (both b refl).1, live_found_lem tag 0 n m, live_found_lem tag 1 n m)
     where
-      live : Found → Bool
+      live : Option ℕ → Bool
       live = live_found (token_at m)
 
-      go : (b : Bool) → cond b (ready_of k (live (At i)) (live other)) (ready_of k (live other) (live (At i))) ≡ ready_of k (live (cond b (At i) other)) (live (cond b other (At i)))
+      go : (b : Bool) → cond b (ready_of k (live (Some i)) (live other)) (ready_of k (live other) (live (Some i))) ≡ ready_of k (live (cond b (Some i) other)) (live (cond b other (Some i)))
       go true = refl
       go false = refl
 
@@ -299,7 +285,7 @@ not_live (Live v) k = absurd (k v refl)
 not_live (Spent v) k = refl
 not_live (Deferred cell) k = refl
 
-module _ {m : List ℕ} {own : ℕ} {tag : Tag} {port : ℕ} {other : Found} (w : Last m own tag port other) where
+module _ {m : List ℕ} {own : ℕ} {tag : Tag} {port : ℕ} {other : Option ℕ} (w : Last m own tag port other) where
   last_within : FoundWithin other (own + 1)
   last_within = rw w.partner (found_within (stands_at tag (1 - port)) (own + 1) m)
 
@@ -307,14 +293,14 @@ module _ {m : List ℕ} {own : ℕ} {tag : Tag} {port : ℕ} {other : Found} (w 
   last_partner = within_more other (own + 1) (length m / token_width) (omega (arith, w.room)) last_within
 
   -- where the activity of its tag stands
-  pub last_place : earliest_of (tokens (own + 1) m) tag ≡ place_or other own
+  pub last_place : earliest_of (tokens (own + 1) m) tag ≡ unwrap_or other own
   last_place = own_place tag port own (own + 1) m (omega arith) w.low w.first other w.partner w.ports ∙ (partner_place other own last_within).0
 
-  pub last_flag : place_or other own < 2048
+  pub last_flag : unwrap_or other own < 2048
   last_flag = omega (arith, (partner_place other own last_within).1, w.few)
 
   -- and whether it is ready
-  pub last_ready : (k : ℕ) → ready_with k port (live_found (token_at m) (At own)) (live_found (token_at m) other) ≡ operands_live k (tokens (own + 1) m) tag
+  pub last_ready : (k : ℕ) → ready_with k port (live_found (token_at m) (Some own)) (live_found (token_at m) other) ≡ operands_live k (tokens (own + 1) m) tag
   last_ready k = own_ready tag port own (own + 1) m (omega arith) w.low w.first other w.partner k
 
   -- a live operand completes it if the other is live, where there is one

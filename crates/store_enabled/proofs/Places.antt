@@ -1,14 +1,16 @@
--- Laws of the answers of searches: a record's state says whether its token is live, the token that was found is the one that `live_on` asks, and the lower of two places is the earliest of a tag.
+-- Laws of the answers of searches: a record's state says whether its token is live, the token that was found is the one that `live_on` asks, and the earlier of two places is the earliest of a tag.
 -- Assumes nothing.
-use Prim.Native.Nat.{ℕ, zero, suc, ◌+◌, ◌*◌, ◌≤◌, ◌<◌}
+use Rattle.std.proofs.Math.Nat.{zero-min, min-zero, min-le_left}
+use Prim.Native.Nat.{ℕ, suc, ◌+◌, ◌*◌, ◌<◌, min}
 use mathlib.Core.Path.{◌≡◌, refl, sym, ap, ◌∙◌}
 use mathlib.Core.Bool.{Bool, true, false, cond, and-false}
 use mathlib.Core.List.{List, [], ◌∷◌}
 use native.Mathlib.Omega.{arith}
-use lib.Dec.{ltb, eqb}
+use native.Mathlib.Numerals.{unary_clauses}
+use lib.Dec.{eqb}
 use lib.ListN.{length, get_or, drop}
 use lib.Seq.{get_or-drop}
-use borrow.Author.Tests.{eqb-true, eqb-false, eq-eqb, lt-ltb, le-ltb, ltb-true, ltb-false}
+use borrow.Author.Tests.{eqb-true, eqb-false, eq-eqb}
 use Rattle.buffer.specs.Rows.{All}
 use Rattle.number.specs.Number.{byte_at, number32, signed_of}
 use Rattle.record.specs.TokensAndTags.{content_of, tokens, token_at, decode_token, same_tag, stands_at}
@@ -17,13 +19,12 @@ use Rattle.record.specs.declared.tag.Tag.{Tag}
 use Rattle.record.specs.declared.token.Token.{Token}
 use Rattle.record.specs.declared.token.Content.TheVariants.{Live, Spent, Deferred}
 use Rattle.record.specs.Widths.{token_width, state_offset, value_offset}
-use Rattle.store_chains.specs.declared.Found.{Found}
-use Rattle.store_chains.specs.declared.Found.TheVariants.{At, Nothing}
+use Rattle.std.specs.Prelude.{Option, Some, None, unwrap_or}
 use Rattle.store_chains.specs.Search.{first_from, FoundWithin}
 use Rattle.store_chains.proofs.Search.{shift, first_cons}
 use Rattle.store_chains.proofs.Index.{found_within}
 use Rattle.store_enabled.specs.Enabled.{is_live_record, live_on, earliest_of}
-use Rattle.store_enabled.specs.Store.{place_or, lower, live_found}
+use Rattle.store_enabled.specs.Store.{live_found}
 
 -- ---- the state of a record
 
@@ -42,25 +43,25 @@ live_state l i = live_content (number32 (drop (i * token_width) l) value_offset)
 
 -- ---- the token at a port of a tag
 
-live_cons : (t d : Token) (ts : List Token) (f : Found) → live_found (λ i. get_or (t ∷ ts) i d) (shift f) ≡ live_found (λ i. get_or ts i d) f
-live_cons t d ts (At i) = refl
-live_cons t d ts Nothing = refl
+live_cons : (t d : Token) (ts : List Token) (f : Option ℕ) → live_found (λ i. get_or (t ∷ ts) i d) (shift f) ≡ live_found (λ i. get_or ts i d) f
+live_cons t d ts (Some i) = refl
+live_cons t d ts None = refl
 
 live_list : (tag : Tag) (port : ℕ) (d : Token) (ts : List Token) → live_found (λ i. get_or ts i d) (first_from (stands_at tag port) 0 ts) ≡ live_on ts tag port
 live_list tag port d [] = refl
 live_list tag port d (t ∷ ts) = rw (first_cons (stands_at tag port) t ts) (go (stands_at tag port t) (live_list tag port d ts))
   where
     go : (b : Bool) → live_found (λ i. get_or ts i d) (first_from (stands_at tag port) 0 ts) ≡ live_on ts tag port
-        → live_found (λ i. get_or (t ∷ ts) i d) (cond b (At 0) (shift (first_from (stands_at tag port) 0 ts))) ≡ cond b (is_live_record t.content) (live_on ts tag port)
+        → live_found (λ i. get_or (t ∷ ts) i d) (cond b (Some 0) (shift (first_from (stands_at tag port) 0 ts))) ≡ cond b (is_live_record t.content) (live_on ts tag port)
     go true ih = refl
     go false ih = live_cons t d ts (first_from (stands_at tag port) 0 ts) ∙ ih
 
-live_rows : (n : ℕ) (l : List ℕ) (d : Token) (f : Found) → FoundWithin f n → live_found (token_at l) f ≡ live_found (λ i. get_or (tokens n l) i d) f
-live_rows n l d (At i) w = rw (get_d_rows token_width decode_token n i l d w)
-live_rows n l d Nothing w = refl
+live_rows : (n : ℕ) (l : List ℕ) (d : Token) (f : Option ℕ) → FoundWithin f n → live_found (token_at l) f ≡ live_found (λ i. get_or (tokens n l) i d) f
+live_rows n l d (Some i) w = rw (get_d_rows token_width decode_token n i l d w)
+live_rows n l d None w = refl
 
 -- the first at a port of a tag is not live
-pub live_off : (tag : Tag) (port : ℕ) (d : Token) (ts : List Token) (i : ℕ) → first_from (stands_at tag port) 0 ts ≡ At i → is_live_record (get_or ts i d).content ≡ false
+pub live_off : (tag : Tag) (port : ℕ) (d : Token) (ts : List Token) (i : ℕ) → first_from (stands_at tag port) 0 ts ≡ Some i → is_live_record (get_or ts i d).content ≡ false
     → live_on ts tag port ≡ false
 live_off tag port d ts i e n = sym (live_list tag port d ts) ∙ ap (live_found (λ k. get_or ts k d)) e ∙ n
 
@@ -71,41 +72,20 @@ live_found_lem tag port n l =
 
 -- ---- the earliest token of a tag
 
-pub lower_first : (a b : ℕ) → a < b → lower a b ≡ a
-lower_first a b h = rw (lt-ltb a b h)
+min_suc : (a b : ℕ) → min (suc a) (suc b) ≡ suc (min a b)
+min_suc a b = simp unary_clauses
 
-pub lower_second : (a b : ℕ) → b ≤ a → lower a b ≡ b
-lower_second a b h = rw (le-ltb a b h)
+-- the earlier is no more than the first
+pub min_below : (a b n : ℕ) → a < n → min a b < n
+min_below a b n h = omega (arith, min-le_left a b)
 
--- the lower is no more than the first
-pub lower_below : (a b n : ℕ) → a < n → lower a b < n
-lower_below a b n h = go (ltb a b) refl
-  where
-    go : (t : Bool) → ltb a b ≡ t → cond t a b < n
-    go true e = h
-    go false e = omega (arith, ltb-false a b e)
-
-lower_suc : (a b : ℕ) → lower (suc a) (suc b) ≡ suc (lower a b)
-lower_suc a b = go (ltb a b) refl
-  where
-    go : (t : Bool) → ltb a b ≡ t → lower (suc a) (suc b) ≡ suc (cond t a b)
-    go true e = lower_first (suc a) (suc b) (omega (arith, ltb-true a b e))
-    go false e = lower_second (suc a) (suc b) (omega (arith, ltb-false a b e))
-
-lower_left : (b : ℕ) → lower 0 b ≡ 0
-lower_left zero = refl
-lower_left (suc b) = lower_first 0 (suc b) (omega arith)
-
-lower_right : (a : ℕ) → lower a 0 ≡ 0
-lower_right a = lower_second a 0 (omega arith)
-
-place_shift : (f : Found) (n : ℕ) → place_or (shift f) (suc n) ≡ suc (place_or f n)
-place_shift (At i) n = refl
-place_shift Nothing n = refl
+place_shift : (f : Option ℕ) (n : ℕ) → unwrap_or (shift f) (suc n) ≡ suc (unwrap_or f n)
+place_shift (Some i) n = refl
+place_shift None n = refl
 
 module _ (tag : Tag) where
   abbrev seek : ℕ → List Token → ℕ
-  seek port ts = place_or (first_from (stands_at tag port) 0 ts) (length ts)
+  seek port ts = unwrap_or (first_from (stands_at tag port) 0 ts) (length ts)
 
   seek_here : (port : ℕ) (t : Token) (ts : List Token) → stands_at tag port t ≡ true → seek port (t ∷ ts) ≡ 0
   seek_here port t ts e = rw (first_cons (stands_at tag port) t ts, e)
@@ -121,18 +101,18 @@ module _ (tag : Tag) where
   unfolding stands_at
   stands_other port t s = rw s (and-false (eqb t.port port))
 
-  first_tag : (ts : List Token) → All (λ (t : Token). t.port < 2) ts → earliest_of ts tag ≡ lower (seek 0 ts) (seek 1 ts)
+  first_tag : (ts : List Token) → All (λ (t : Token). t.port < 2) ts → earliest_of ts tag ≡ min (seek 0 ts) (seek 1 ts)
   first_tag [] w = refl
   first_tag (t ∷ ts) w = go (same_tag t.tag tag) refl (eqb t.port 0) refl (first_tag ts w.1)
     where
-      go : (s : Bool) → same_tag t.tag tag ≡ s → (z : Bool) → eqb t.port 0 ≡ z → earliest_of ts tag ≡ lower (seek 0 ts) (seek 1 ts)
-          → cond s 0 (suc (earliest_of ts tag)) ≡ lower (seek 0 (t ∷ ts)) (seek 1 (t ∷ ts))
-      go true e true d ih = rw (seek_here 0 t ts (stands_tag 0 t (eqb-true t.port 0 d) e)) (sym (lower_left (seek 1 (t ∷ ts))))
-      go true e false d ih = rw (seek_here 1 t ts (stands_tag 1 t (omega (arith, eqb-false t.port 0 d, w.0)) e)) (sym (lower_right (seek 0 (t ∷ ts))))
-      go false e z d ih = rw (seek_later 0 t ts (stands_other 0 t e), seek_later 1 t ts (stands_other 1 t e)) (ap suc ih ∙ sym (lower_suc (seek 0 ts) (seek 1 ts)))
+      go : (s : Bool) → same_tag t.tag tag ≡ s → (z : Bool) → eqb t.port 0 ≡ z → earliest_of ts tag ≡ min (seek 0 ts) (seek 1 ts)
+          → cond s 0 (suc (earliest_of ts tag)) ≡ min (seek 0 (t ∷ ts)) (seek 1 (t ∷ ts))
+      go true e true d ih = rw (seek_here 0 t ts (stands_tag 0 t (eqb-true t.port 0 d) e)) (sym (zero-min (seek 1 (t ∷ ts))))
+      go true e false d ih = rw (seek_here 1 t ts (stands_tag 1 t (omega (arith, eqb-false t.port 0 d, w.0)) e)) (sym (min-zero (seek 0 (t ∷ ts))))
+      go false e z d ih = rw (seek_later 0 t ts (stands_other 0 t e), seek_later 1 t ts (stands_other 1 t e)) (ap suc ih ∙ sym (min_suc (seek 0 ts) (seek 1 ts)))
 
   -- the same over a ledger
   pub first_place : (n : ℕ) (l : List ℕ) → All (λ (t : Token). t.port < 2) (tokens n l)
       → earliest_of (tokens n l) tag
-      ≡ lower (place_or (first_from (stands_at tag 0) 0 (tokens n l)) n) (place_or (first_from (stands_at tag 1) 0 (tokens n l)) n)
+      ≡ min (unwrap_or (first_from (stands_at tag 0) 0 (tokens n l)) n) (unwrap_or (first_from (stands_at tag 1) 0 (tokens n l)) n)
   first_place n l w = rw (length_rows token_width decode_token n l) at (first_tag (tokens n l) w)

@@ -14,10 +14,10 @@ use Rattle.record.specs.TokensAndTags.{same_tag}
 use Rattle.record.proofs.Paths.{same_path_lem}
 use Rattle.record.specs.declared.tag.Tag.{Tag}
 use Rattle.record.specs.declared.token.Token.{Token}
-use Rattle.store_flags.specs.Flags.{places}
+use Rattle.store_flags.specs.Flags.{places, FlagList}
 use Rattle.store_flags.specs.Marks.{bit, first_of, places_where}
 use Rattle.store_flags.specs.Marks as Marks
-use Rattle.store_flags.proofs.Marks.{first_le, where_map, where_passes, where_below, marked_none, marked_places, marked_append, marked_change, marked_first}
+use Rattle.store_flags.proofs.Marks.{first_le, where_map, where_passes, where_below, marked_list, marked_none, marked_places, marked_append, marked_change, marked_first}
 use Rattle.store_chains.proofs.Index.{and_left, and_right, tag_own}
 use Rattle.store_enabled.specs.Enabled.{live_on, operands_live, arity_of, is_enabled, tag_of, tags_in, tag_same, earliest_of, leads_in, enabled_places}
 use Rattle.store_enabled.specs.Store.{Right}
@@ -117,6 +117,10 @@ pub stays : (flags : List ℕ) (p : ℕ) → get_or flags p 0 ≡ 0 → flags �
 stays flags p e = sym (ap (λ (x : ℕ). set flags p x) (sym e) ∙ set-get_or flags p 0)
 
 module _ (tables : List ℕ) where
+  pub right_list : (ts : List Token) (flags : List ℕ) → length ts ≤ 2048 → Right tables ts flags → FlagList flags
+  unfolding Right
+  right_list ts flags few right = marked_list tag_same (is_enabled tables ts) (tags_in ts) flags (omega (arith, few, length-map ts tag_of)) right
+
   pub right_none : Right tables [] (replicate 2048 0)
   unfolding Right
   right_none = marked_none tag_same (is_enabled tables [])

@@ -11,14 +11,14 @@ use lib.Seq.{get_or-set_same, get_or-set_other}
 use Rattle.record.specs.TokensAndTags.{stands_at}
 use Rattle.record.specs.declared.tag.Tag.{Tag}
 use Rattle.record.specs.declared.token.Token.{Token}
-use Rattle.store_chains.specs.declared.Found.TheVariants.{At}
+use Rattle.std.specs.Prelude.{Some}
 use Rattle.store_chains.specs.Search.{first_from, Free, Single}
 use Rattle.store_chains.proofs.Search.{first_added, first_set, first_kept_lem, get_d_end}
 use Rattle.store_chains.proofs.Index.{stands_own, stands_same}
 
 -- the place of a token on its port of its tag, as its tag and port are given
 pub single_at : (ts : List Token) → Single ts → (i : ℕ) (d : Token) → i < length ts → (tag : Tag) (port : ℕ) → tag ≡ (get_or ts i d).tag → port ≡ (get_or ts i d).port
-    → first_from (stands_at tag port) 0 ts ≡ At i
+    → first_from (stands_at tag port) 0 ts ≡ Some i
 unfolding Single
 single_at ts w i d h tag port e g = rw (e, g) (w i d h)
 
@@ -33,7 +33,7 @@ single_append ts t w free i d h = go (dec_lt i (length ts))
     us : List Token
     us = ts ++ t ∷ []
 
-    go : Dec (i < length ts) → first_from (stands_at (get_or us i d).tag (get_or us i d).port) 0 us ≡ At i
+    go : Dec (i < length ts) → first_from (stands_at (get_or us i d).tag (get_or us i d).port) 0 us ≡ Some i
     go (yes l) =
         let e = get_or-append ts (t ∷ []) d i l in
         rw e (first_kept_lem (stands_at (get_or ts i d).tag (get_or ts i d).port) ts (t ∷ []) 0 i (w i d l))
@@ -55,7 +55,7 @@ single_set ts j u x w h e g i d l = go (ℕ_discrete i j)
     same : (tag : Tag) (port : ℕ) → first_from (stands_at tag port) 0 us ≡ first_from (stands_at tag port) 0 ts
     same tag port = first_set (stands_at tag port) ts j u x (stands_same tag port u (get_or ts j x) e g) 0
 
-    go : Dec (i ≡ j) → first_from (stands_at (get_or us i d).tag (get_or us i d).port) 0 us ≡ At i
+    go : Dec (i ≡ j) → first_from (stands_at (get_or us i d).tag (get_or us i d).port) 0 us ≡ Some i
     go (yes q) =
         let here : get_or us i d ≡ u = rw q (get_or-set_same ts j u d h) in
         rw (here, same u.tag u.port, e, g, ← q) (w i x below)

@@ -1,6 +1,7 @@
 -- Laws of operands that are spent: a live token is spent by its state byte alone, and once the token at port 0 of a tag is spent the tag's activity is
 -- not enabled, so that the flag at its place goes. Assumes nothing.
-use Prim.Native.Nat.{ℕ, suc, ◌+◌, ◌*◌, ◌≤◌, ◌<◌}
+use Rattle.std.proofs.Math.Nat.{min-eq_left, min-eq_right}
+use Prim.Native.Nat.{ℕ, suc, ◌+◌, ◌*◌, ◌≤◌, ◌<◌, min}
 use mathlib.Core.Path.{◌≡◌, refl, sym, ap, subst, ◌∙◌}
 use mathlib.Core.Bool.{true, false}
 use mathlib.Core.List.{List}
@@ -18,13 +19,12 @@ use Rattle.record.specs.declared.token.Token.{Token}
 use Rattle.record.specs.declared.token.Content.{Content}
 use Rattle.record.specs.declared.token.Content.TheVariants.{Live, Spent, Deferred}
 use Rattle.record.specs.Widths.{token_width, state_offset, value_offset}
-use Rattle.store_flags.specs.Flags.{flags_of, Counted}
-use Rattle.store_chains.specs.declared.Found.TheVariants.{At}
+use Rattle.std.specs.Prelude.{Some}
 use Rattle.store_chains.specs.Search.{first_from}
 use Rattle.store_chains.proofs.Search.{first_set}
 use Rattle.store_enabled.specs.Enabled.{is_live_record, live_on, content_spent, spent_token, arity_of, earliest_of}
-use Rattle.store_enabled.specs.Store.{Stored, lower, OperandPlaces, EarlierFirst, Spendable, states_spent, tokens_spent}
-use Rattle.store_enabled.proofs.Places.{live_state, live_off, lower_first, lower_second}
+use Rattle.store_enabled.specs.Store.{Stored, OperandPlaces, EarlierFirst, Spendable, states_spent, tokens_spent}
+use Rattle.store_enabled.proofs.Places.{live_state, live_off}
 use Rattle.store_enabled.proofs.Bytes.{spent_byte}
 use Rattle.store_enabled.proofs.Right.{all_off, place_kept}
 use Rattle.store_enabled.proofs.Store.{all_at, Moved, changed}
@@ -87,16 +87,16 @@ module _ (tables links flags l : List ℕ) (used i : ℕ) (w : Stored tables lin
       let f : TokenFits t = rw held at (all_at TokenFits (tokens used l) i t (omega (arith, length_rows token_width decode_token used l)) w.fits) in
       changed tables links flags l used i (spent_token t) w h refl refl (spent_fits t f) m put (length-set l (i * token_width + state_offset) 1)
 
-  spent : (tag : Tag) → t.tag ≡ tag → (p : ℕ) → earliest_of (tokens used l) tag ≡ p → live_on us tag 0 ≡ false → (flags' : List ℕ) → flags_of flags' ≡ set (flags_of flags) p 0 → Counted flags'
+  spent : (tag : Tag) → t.tag ≡ tag → (p : ℕ) → earliest_of (tokens used l) tag ≡ p → live_on us tag 0 ≡ false → (flags' : List ℕ) → flags' ≡ set flags p 0
       → (tokens used (set l (i * token_width + state_offset) 1) ≡ us) × Stored tables links flags' (set l (i * token_width + state_offset) 1) used
-  spent tag e p lead off flags' put c =
+  spent tag e p lead off flags' put =
       let place = place_kept (tokens used l) i (spent_token t) t (ap (λ (x : Token). x.tag) (sym held)) t.tag ∙ ap (earliest_of (tokens used l)) e ∙ lead in
       let down = all_off (arity_of tables t.tag) us t.tag (ap (λ (k : Tag). live_on us k 0) e ∙ off) in
-      (moved.more, moved.stored flags' (put ∙ rw (moved.more, place, down)) c)
+      (moved.more, moved.stored flags' (put ∙ rw (moved.more, place, down)))
 
 -- ---- the operands of an activity are spent
 
-module _ (tables links flags l : List ℕ) (used i j : ℕ) (w : Stored tables links flags l used) (o : OperandPlaces l used i j) (flags' : List ℕ) (put : flags_of flags' ≡ set (flags_of flags) (lower i j) 0) (c : Counted flags') where
+module _ (tables links flags l : List ℕ) (used i j : ℕ) (w : Stored tables links flags l used) (o : OperandPlaces l used i j) (flags' : List ℕ) (put : flags' ≡ set flags (min i j) 0) where
   abbrev ts : List Token
   ts = tokens used l
 
@@ -115,7 +115,7 @@ module _ (tables links flags l : List ℕ) (used i j : ℕ) (w : Stored tables l
   read : (k : ℕ) (d : Token) → k < used → get_or (tokens used l) k d ≡ token_at l k
   read k d h = get_d_rows token_width decode_token used k l d h
 
-  found : first_from (stands_at (token_at l i).tag 0) 0 vs ≡ At i
+  found : first_from (stands_at (token_at l i).tag 0) 0 vs ≡ Some i
   found = first_spent_lem (token_at l i).tag ts i (token_at l i) (read i (token_at l i) o.first_within) ∙ o.found
 
   gone : (d : Token) → get_or vs i d ≡ spent_token (token_at l i)
@@ -124,13 +124,13 @@ module _ (tables links flags l : List ℕ) (used i j : ℕ) (w : Stored tables l
   once : (tokens used m ≡ vs) × Stored tables links flags' m used
   once =
       let off = live_off (token_at l i).tag 0 u vs i found (ap (λ (x : Token). is_live_record x.content) (gone u) ∙ spent_dead (token_at l i).content) in
-      spent tables links flags l used i w o.first_within (state_live l i o.first_live) (token_at l i).tag refl (lower i j) o.place off flags' put c
+      spent tables links flags l used i w o.first_within (state_live l i o.first_live) (token_at l i).tag refl (min i j) o.place off flags' put
 
   -- the second operand is another
   twice : (j ≡ i → ⊥) → (tokens used (states_spent l i j) ≡ tokens_spent used l i j) × Stored tables links flags' (states_spent l i j) used
   twice apart =
       let tag = (token_at l i).tag in
-      let p = lower i j in
+      let p = min i j in
       let v = spent_token (token_at l j) in
       let there : get_or vs j u ≡ token_at l j = get_or-set_other ts i j u u apart ∙ read j u o.second_within in
       let same : token_at m j ≡ token_at l j = sym (get_d_rows token_width decode_token used j m u o.second_within) ∙ ap (λ (ws : List Token). get_or ws j u) once.0 ∙ there in
@@ -139,8 +139,8 @@ module _ (tables links flags l : List ℕ) (used i j : ℕ) (w : Stored tables l
       let dead : is_live_record (get_or (set vs j v) i u).content ≡ false = ap (λ (x : Token). is_live_record x.content) (get_or-set_other vs j i v u (λ e. apart (sym e)) ∙ gone u) ∙ spent_dead (token_at l i).content in
       let off = live_off tag 0 u (set vs j v) i (first_spent_lem tag vs j (token_at l j) (get_or-set_other ts i j u (token_at l j) apart ∙ read j (token_at l j) o.second_within) ∙ found) dead in
       let written : set (tokens used m) j (spent_token (token_at m j)) ≡ set vs j v = λ k. set (once.0 k) j (spent_token (same k)) in
-      let lowered : flags_of flags' ≡ set (flags_of flags') p 0 = put ∙ sym (set-set (flags_of flags) p 0 0) ∙ ap (λ (f : List ℕ). set f p 0) (sym put) in
-      let r = spent tables links flags' m used j once.1 o.second_within live tag (ap (λ (x : Token). x.tag) same ∙ o.one_tag) p lead (ap (λ (ws : List Token). live_on ws tag 0) written ∙ off) flags' lowered c in
+      let lowered : flags' ≡ set flags' p 0 = put ∙ sym (set-set flags p 0 0) ∙ ap (λ (f : List ℕ). set f p 0) (sym put) in
+      let r = spent tables links flags' m used j once.1 o.second_within live tag (ap (λ (x : Token). x.tag) same ∙ o.one_tag) p lead (ap (λ (ws : List Token). live_on ws tag 0) written ∙ off) flags' lowered in
       (r.0 ∙ written, r.1)
 
   pub both_spent_lem : (tokens used (states_spent l i j) ≡ tokens_spent used l i j) × Stored tables links flags' (states_spent l i j) used
@@ -158,11 +158,11 @@ either {p} {q} {i} {j} o P a b = go (dec_le (suc i) j)
   where
     go : Dec (suc i ≤ j) → P p q
     go (yes h) =
-        let e : p ≡ i = o.lead ∙ lower_first i j h in
+        let e : p ≡ i = o.lead ∙ min-eq_left (omega arith) in
         let f : q ≡ j = omega (arith, o.rest) in
         rw (e, f) a
     go (no n) =
-        let e : p ≡ j = o.lead ∙ lower_second i j (omega arith) in
+        let e : p ≡ j = o.lead ∙ min-eq_right (omega arith) in
         let f : q ≡ i = omega (arith, o.rest) in
         rw (e, f) b
 
@@ -185,12 +185,12 @@ states_either l i j = go (ℕ_discrete j i)
     go (no apart) = set_comm l (j * token_width + state_offset) (i * token_width + state_offset) 1 1 (λ e. apart (omega arith))
 
 module _ (tables links flags l : List ℕ) (used p q : ℕ) (w : Stored tables links flags l used) (s : Spendable l used p q) where
-  pub in_order_spent : (flags' : List ℕ) → flags_of flags' ≡ set (flags_of flags) p 0 → Counted flags'
+  pub in_order_spent : (flags' : List ℕ) → flags' ≡ set flags p 0
       → (tokens used (states_spent l p q) ≡ tokens_spent used l p q) × Stored tables links flags' (states_spent l p q) used
-  in_order_spent flags' put c =
+  in_order_spent flags' put =
       let i = s.first in
       let j = s.second in
-      let b = both_spent_lem tables links flags l used i j w s.operands flags' (put ∙ ap (λ (n : ℕ). set (flags_of flags) n 0) s.order.lead) c in
+      let b = both_spent_lem tables links flags l used i j w s.operands flags' (put ∙ ap (λ (n : ℕ). set flags n 0) s.order.lead) in
       let states : states_spent l p q ≡ states_spent l i j = either s.order (λ a b. states_spent l a b ≡ states_spent l i j) refl (states_either l i j) in
       let spents : tokens_spent used l p q ≡ tokens_spent used l i j =
       either s.order (λ a b. tokens_spent used l a b ≡ tokens_spent used l i j) refl (set_either (tokens used l) (λ (k : ℕ). spent_token (token_at l k)) i j) in

@@ -14,10 +14,9 @@ use Rattle.record.proofs.Records.{tokens_put, tokens_end}
 use Rattle.record.specs.declared.tag.Tag.{Tag}
 use Rattle.record.specs.declared.token.Token.{Token}
 use Rattle.record.specs.Widths.{token_width}
-use Rattle.store_flags.specs.Flags.{flags_of, Counted}
 use Rattle.store_flags.specs.Marks.{bit}
 use Rattle.store_chains.specs.Chains.{bucket_key, Indexed}
-use Rattle.store_chains.specs.declared.Found.TheVariants.{At}
+use Rattle.std.specs.Prelude.{Some}
 use Rattle.store_chains.specs.Search.{first_from, Free, FoundWithin, Single}
 use Rattle.store_chains.specs.Slots.{Open}
 use Rattle.store_chains.specs.Partners.{partner_at, Partnered, Beside}
@@ -53,7 +52,7 @@ pub known_few : (links l : List ℕ) (used : ℕ) → Known links l used → use
 known_few links l used w = omega (arith, chained_few 0 4096 bucket_key links (tokens used l) w.index, length_rows token_width decode_token used l)
 
 -- what is beside a token, the first on a port of a tag, stands on the tag's other port
-pub known_partner : (links l : List ℕ) (used : ℕ) → Known links l used → (own : ℕ) (tag : Tag) (port : ℕ) → own < used → first_from (stands_at tag port) 0 (tokens used l) ≡ At own
+pub known_partner : (links l : List ℕ) (used : ℕ) → Known links l used → (own : ℕ) (tag : Tag) (port : ℕ) → own < used → first_from (stands_at tag port) 0 (tokens used l) ≡ Some own
     → (partner_at links own ≡ first_from (stands_at tag (1 - port)) 0 (tokens used l)) × FoundWithin (partner_at links own) used
 known_partner links l used w own tag port h e =
     let ts = tokens used l in
@@ -68,7 +67,6 @@ stored_links tables links flags l used w links' index partners = record {
   known = record { room = w.known.room; index = index; ports = w.known.ports; single = w.known.single; partners = partners };
   bytes = w.bytes;
   fits = w.fits;
-  counted = w.counted;
   right = w.right;
 }
 
@@ -86,9 +84,9 @@ pub record Moved (tables links flags m : List ℕ) (used at : ℕ) (us : List To
   pub more : tokens used m ≡ us
   pub known : Known links m used
   pub place : earliest_of (tokens used m) t.tag < used
-  pub own : first_from (stands_at t.tag t.port) 0 (tokens used m) ≡ At at
-  pub stored : (flags' : List ℕ) → flags_of flags' ≡ set (flags_of flags) (earliest_of (tokens used m) t.tag) (bit (is_enabled tables (tokens used m) t.tag))
-      → Counted flags' → Stored tables links flags' m used
+  pub own : first_from (stands_at t.tag t.port) 0 (tokens used m) ≡ Some at
+  pub stored : (flags' : List ℕ) → flags' ≡ set flags (earliest_of (tokens used m) t.tag) (bit (is_enabled tables (tokens used m) t.tag))
+      → Stored tables links flags' m used
 
 -- a token is added
 module _ (tables links flags l : List ℕ) (used : ℕ) (t : Token) (w : Stored tables links flags l used) (room : used < length l / token_width) (few : used < 2048) (low : t.port < 2) (free : Free (tokens used l) t.tag t.port) (fits : TokenFits t) (m : List ℕ) (put : m ≡ put_row token_width l used (encode_token t)) (len : length m ≡ length l) (links' : List ℕ) (index : Indexed links' (tokens used l ++ t ∷ [])) (partners : Partnered links' (tokens used l ++ t ∷ [])) where
@@ -108,13 +106,12 @@ module _ (tables links flags l : List ℕ) (used : ℕ) (t : Token) (w : Stored 
         more = e;
         known = known;
         place = rw e (omega (arith, place_append ts t));
-        own = rw e (first_added (stands_at t.tag t.port) t ts free (stands_own t.tag t.port t refl refl) ∙ ap At n);
-        stored = λ flags' put' c. record {
+        own = rw e (first_added (stands_at t.tag t.port) t ts free (stands_own t.tag t.port t refl refl) ∙ ap Some n);
+        stored = λ flags' put'. record {
           known = known;
           bytes = rw (put, add-one) (bytes_end used l w.bytes t fits (omega arith));
           fits = rw e (all_append TokenFits ts t w.fits fits);
-          counted = c;
-          right = rw (put', e) (right_append tables ts t (flags_of flags) (omega arith) w.right);
+          right = rw (put', e) (right_append tables ts t flags (omega arith) w.right);
         };
       }
 
@@ -167,11 +164,10 @@ module _ (tables links flags l : List ℕ) (used i : ℕ) (t : Token) (w : Store
         known = known;
         place = rw e (omega (arith, place_set ts i t d (omega arith) tag));
         own = rw e (first_set (stands_at t.tag t.port) ts i t d (stands_same t.tag t.port t (get_or ts i d) tag port) 0 ∙ single_at ts w.known.single i d (omega arith) t.tag t.port tag port);
-        stored = λ flags' put' c. record {
+        stored = λ flags' put'. record {
           known = known;
           bytes = rw put (bytes_put used l w.bytes t i h fits space);
           fits = rw e (all_set TokenFits ts i t w.fits fits);
-          counted = c;
-          right = rw (put', e) (right_set tables ts i t d (flags_of flags) (omega arith) tag w.right);
+          right = rw (put', e) (right_set tables ts i t d flags (omega arith) tag w.right);
         };
       }

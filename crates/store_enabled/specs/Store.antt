@@ -1,16 +1,13 @@
 -- Working definition: no public promise cites it.
 -- What is kept beside the used records of a ledger: the chains by tag, and the flags of the enabled activities with their counts.
 -- Assumes nothing.
-use Rattle.std.specs.Prelude.{ℕ, ◌+◌, ◌-◌, ◌*◌, ◌/◌, ◌≤◌, ◌<◌, ◌≡◌, Bool, true, false, ◌&&◌, cond, List, length, set, take, eqb, ltb}
+use Rattle.std.specs.Prelude.{ℕ, ◌+◌, ◌-◌, ◌*◌, ◌/◌, ◌≤◌, ◌<◌, ◌≡◌, Bool, true, false, ◌&&◌, cond, List, length, set, take, eqb, Option, Some, None, min}
 use Rattle.buffer.specs.Rows.{joined, put_row, All}
 use Rattle.record.specs.TokensAndTags.{encode_token, tokens, token_at, stands_at, TokenFits}
 use Rattle.record.specs.declared.tag.Tag.{Tag}
 use Rattle.record.specs.declared.token.Token.{Token}
 use Rattle.record.specs.Widths.{token_width, state_offset}
-use Rattle.store_flags.specs.Flags.{flags_of, Counted}
 use Rattle.store_flags.specs.Marks.{Marked}
-use Rattle.store_chains.specs.declared.Found.{Found}
-use Rattle.store_chains.specs.declared.Found.TheVariants.{At, Nothing}
 use Rattle.store_chains.specs.Chains.{Indexed}
 use Rattle.store_chains.specs.Search.{first_from, Single}
 use Rattle.store_chains.specs.Partners.{Partnered}
@@ -33,8 +30,7 @@ pub record Stored (tables links flags ledger : List ℕ) (used : ℕ) : Type 0 w
   pub known : Known links ledger used
   pub bytes : take (used * token_width) ledger ≡ joined encode_token (tokens used ledger)
   pub fits : All TokenFits (tokens used ledger)
-  pub counted : Counted flags
-  pub right : Right tables (tokens used ledger) (flags_of flags)
+  pub right : Right tables (tokens used ledger) flags
 
 -- the flag of an activity is raised if its operands are all live, and else left as it was
 abbrev pub raised_if : (live : Bool) → (flags : List ℕ) → (place : ℕ) → List ℕ
@@ -42,20 +38,13 @@ raised_if live flags place = cond live (set flags place 1) flags
 
 -- ---- answers of a search
 
-abbrev pub place_or : Found → (other : ℕ) → ℕ
-place_or (At i) n = i
-place_or Nothing n = n
-
-abbrev pub lower : ℕ → ℕ → ℕ
-lower a b = cond (ltb a b) a b
-
-abbrev pub live_found : (ℕ → Token) → Found → Bool
-live_found at (At i) = is_live_record (at i).content
-live_found at Nothing = false
+abbrev pub live_found : (ℕ → Token) → Option ℕ → Bool
+live_found at (Some i) = is_live_record (at i).content
+live_found at None = false
 
 -- the place of the activity of a tag, if it is enabled
-abbrev pub enabled_at : (tables : List ℕ) → List Token → Tag → Found
-enabled_at tables ts tag = cond (is_enabled tables ts tag) (At (earliest_of ts tag)) Nothing
+abbrev pub enabled_at : (tables : List ℕ) → List Token → Tag → Option ℕ
+enabled_at tables ts tag = cond (is_enabled tables ts tag) (Some (earliest_of ts tag)) None
 
 -- of n operands all are live, where a and b say it of ports 0 and 1
 abbrev pub ready_of : (n : ℕ) → (a b : Bool) → Bool
@@ -68,12 +57,12 @@ ready_with n port a b = cond (eqb port 0) (ready_of n a b) (ready_of n b a)
 -- ---- a token that has arrived
 
 -- record `own` is the last, and the first on a port of a tag, which is 0 or 1; `other` is its partner, which stands on the other port
-pub record Last (ledger : List ℕ) (own : ℕ) (tag : Tag) (port : ℕ) (other : Found) : Type 0 where
+pub record Last (ledger : List ℕ) (own : ℕ) (tag : Tag) (port : ℕ) (other : Option ℕ) : Type 0 where
   pub room : own < length ledger / token_width
   pub few : own < 2048
   pub ports : All (λ (t : Token). t.port < 2) (tokens (own + 1) ledger)
   pub low : port < 2
-  pub first : first_from (stands_at tag port) 0 (tokens (own + 1) ledger) ≡ At own
+  pub first : first_from (stands_at tag port) 0 (tokens (own + 1) ledger) ≡ Some own
   pub partner : other ≡ first_from (stands_at tag (1 - port)) 0 (tokens (own + 1) ledger)
 
 -- ---- a token that stands in its record already
@@ -96,12 +85,12 @@ pub record OperandPlaces (ledger : List ℕ) (used first second : ℕ) : Type 0 
   pub first_live : is_live_record (token_at ledger first).content ≡ true
   pub second_live : is_live_record (token_at ledger second).content ≡ true
   pub one_tag : (token_at ledger second).tag ≡ (token_at ledger first).tag
-  pub found : first_from (stands_at (token_at ledger first).tag 0) 0 (tokens used ledger) ≡ At first
-  pub place : earliest_of (tokens used ledger) (token_at ledger first).tag ≡ lower first second
+  pub found : first_from (stands_at (token_at ledger first).tag 0) 0 (tokens used ledger) ≡ Some first
+  pub place : earliest_of (tokens used ledger) (token_at ledger first).tag ≡ min first second
 
 -- of two places the earlier comes first
 pub record EarlierFirst (place other first second : ℕ) : Type 0 where
-  pub lead : place ≡ lower first second
+  pub lead : place ≡ min first second
   pub rest : place + other ≡ first + second
 
 -- the operands stand at an activity's place and at another, whichever of them is on port 0

@@ -2,22 +2,20 @@
 // operands of an activity are spent, and the flag of its activity is put right.
 #![tactic(auto)]
 
-ghost use Rattle.std.specs.Prelude.{◌≡◌, true, ◌&&◌, List, [], ◌∷◌, ◌++◌, ℕ, ◌+◌, ◌/◌, ◌<◌, ltb, length, get_or, set};
+ghost use Rattle.std.specs.Prelude.{◌≡◌, true, ◌&&◌, List, [], ◌∷◌, ◌++◌, ℕ, ◌+◌, ◌/◌, ◌<◌, ltb, length, get_or, set, Some};
 ghost use Rattle.buffer.specs.Rows.{put_row};
 ghost use Rattle.record.specs.TokensAndTags.{encode_token, tokens, token_at, stands_at};
 ghost use Rattle.record.specs.Widths.{token_width};
-ghost use Rattle.store_flags.specs.Flags.{flags_of, Counted};
 ghost use Rattle.store_chains.specs.Search.{first_from, FoundWithin};
 ghost use Rattle.store_chains.specs.Slots.{Open};
 ghost use Rattle.store_chains.specs.Deferred.{LowCell, Waiting};
-ghost use Rattle.store_chains.specs.declared.Found.TheVariants.{At};
 ghost use Rattle.store_enabled.specs.Enabled.{is_live_record, operands_live, waited_for, arity_of, earliest_of};
-ghost use Rattle.store_enabled.specs.Store.{Known, Stored, raised_if, place_or, lower, live_found, enabled_at, ready_of, ready_with, Last, StandingRecord, Spendable, states_spent, tokens_spent};
+ghost use Rattle.store_enabled.specs.Store.{Known, Stored, raised_if, live_found, enabled_at, ready_of, ready_with, Last, StandingRecord, Spendable, states_spent, tokens_spent};
 
 use record::tag::Tag;
 use record::token;
 use record::token::{Content, Token};
-use store_chains::{Found, Links, Slot};
+use store_chains::{Links, Slot};
 use store_flags::Flags;
 
 // The tables of a graph: returns by site, the named arrays, and the entries of the instructions.
@@ -25,28 +23,19 @@ pub const TABLES_LENGTH: usize = 641;
 
 pub type Tables = [u16; TABLES_LENGTH];
 
-fn place_or(f: Found, other: usize) -> usize
-    ensures { result ≡ place_or f other }
-{
-    match f {
-        Found::At(i) => i,
-        Found::Nothing => other,
-    }
-}
-
 // Whether what was found is live: the state of its record is 0.
-fn live(ledger: &[u8], f: Found) -> bool
+fn live(ledger: &[u8], f: Option<usize>) -> bool
     requires { FoundWithin f (length ledger.now / token_width) }
     ensures { result ≡ live_found (token_at ledger.now) f }
 {
     match f {
-        Found::At(i) => ledger[i * token::WIDTH + token::STATE] == 0,
-        Found::Nothing => false,
+        Some(i) => ledger[i * token::WIDTH + token::STATE] == 0,
+        None => false,
     }
 }
 
 // Whether all operands of an activity are live, where f and g stand on its ports.
-fn ready(ledger: &[u8], f: Found, g: Found, operands: u16) -> bool
+fn ready(ledger: &[u8], f: Option<usize>, g: Option<usize>, operands: u16) -> bool
     requires { FoundWithin f (length ledger.now / token_width) × FoundWithin g (length ledger.now / token_width) }
     ensures { result ≡ ready_of operands (live_found (token_at ledger.now) f) (live_found (token_at ledger.now) g) }
 {
@@ -63,7 +52,13 @@ fn ready(ledger: &[u8], f: Found, g: Found, operands: u16) -> bool
 }
 
 // The same, where `own` stands on a port and `other` on the other one.
-fn ready_with(ledger: &[u8], port: u8, own: Found, other: Found, operands: u16) -> bool
+fn ready_with(
+    ledger: &[u8],
+    port: u8,
+    own: Option<usize>,
+    other: Option<usize>,
+    operands: u16,
+) -> bool
     requires { FoundWithin own (length ledger.now / token_width) × FoundWithin other (length ledger.now / token_width) }
     ensures { result ≡ ready_with operands port (live_found (token_at ledger.now) own) (live_found (token_at ledger.now) other) }
 {
@@ -72,12 +67,6 @@ fn ready_with(ledger: &[u8], port: u8, own: Found, other: Found, operands: u16) 
     } else {
         ready(ledger, other, own, operands)
     }
-}
-
-fn earlier(a: usize, b: usize) -> usize
-    ensures { result ≡ lower a b }
-{
-    if a < b { a } else { b }
 }
 
 // Raises the flag of the activity of the token at `own`, if its operands are all live. Its own port is
@@ -92,23 +81,22 @@ fn settle_changed(
     port: u8,
     operands: u16,
 )
-    requires { Counted flags.old × Known links.now ledger.now used × (own < used) × (port < 2) × (first_from (stands_at tag port) 0 (tokens used ledger.now) ≡ At own) }
-    ensures flags_after { flags_of flags.new
-        ≡ raised_if (operands_live operands (tokens used ledger.now) tag) (flags_of flags.old)
+    requires { Known links.now ledger.now used × (own < used) × (port < 2) × (first_from (stands_at tag port) 0 (tokens used ledger.now) ≡ Some own) }
+    ensures flags_after { flags.new
+        ≡ raised_if (operands_live operands (tokens used ledger.now) tag) flags.old
         (earliest_of (tokens used ledger.now) tag) }
-    ensures counted { Counted flags.new }
 {
     let other = store_chains::partner(links, own);
-    if ready_with(ledger, port, Found::At(own), other, operands) {
-        let place = earlier(own, place_or(other, own));
-        if !store_flags::is_raised(flags, place) {
-            store_flags::raise(flags, place);
+    if ready_with(ledger, port, Some(own), other, operands) {
+        let place = own.min(other.unwrap_or(own));
+        if !flags.is_raised(place) {
+            flags.raise(place);
         }
     }
 }
 
 // Whether a live operand completes its activity, whose other operand is `other` where two are waited for.
-fn completes(ledger: &[u8], other: Found, operands: u16) -> bool
+fn completes(ledger: &[u8], other: Option<usize>, operands: u16) -> bool
     requires { FoundWithin other (length ledger.now / token_width) }
     ensures { result ≡ ready_of operands true (live_found (token_at ledger.now) other) }
 {
@@ -121,12 +109,12 @@ fn completes(ledger: &[u8], other: Found, operands: u16) -> bool
     false
 }
 
-// LEAVE's entry in the tables of a graph; any other entry is an operand count.
+// LEAVE's entry in the tables of a graph; any other entry is an operand count. It stays a number, as it stands in the tables.
 pub const LEAVE_ENTRY: u16 = 3;
 
 // Whether a live token on a port of a tag is an operand and completes its activity, by the entry of its instruction. The path is looked
 // at for LEAVE alone, and no number is made of it.
-fn completes_by(ledger: &[u8], other: Found, entry: u16, tag: Tag, port: u8) -> bool
+fn completes_by(ledger: &[u8], other: Option<usize>, entry: u16, tag: Tag, port: u8) -> bool
     requires { FoundWithin other (length ledger.now / token_width) × (port < 2) }
     ensures { result ≡ ltb port (waited_for entry tag) && ready_of (waited_for entry tag) true (live_found (token_at ledger.now) other) }
 {
@@ -154,20 +142,18 @@ fn settle_arrived(
     own: usize,
     tag: Tag,
     port: u8,
-    other: Found,
+    other: Option<usize>,
     entry: u16,
 )
-    requires { Counted flags.old
-        × Last ledger.now own tag port other
+    requires { Last ledger.now own tag port other
         × (is_live_record (token_at ledger.now own).content ≡ true)
-        × (port < waited_for entry tag → get_or (flags_of flags.old) (earliest_of (tokens (own + 1) ledger.now) tag) 0 ≡ 0) }
-    ensures flags_after { flags_of flags.new
+        × (port < waited_for entry tag → get_or flags.old (earliest_of (tokens (own + 1) ledger.now) tag) 0 ≡ 0) }
+    ensures flags_after { flags.new
         ≡ raised_if (ltb port (waited_for entry tag) && operands_live (waited_for entry tag) (tokens (own + 1) ledger.now) tag)
-        (flags_of flags.old) (earliest_of (tokens (own + 1) ledger.now) tag) }
-    ensures counted { Counted flags.new }
+        flags.old (earliest_of (tokens (own + 1) ledger.now) tag) }
 {
     if completes_by(ledger, other, entry, tag, port) {
-        store_flags::raise(flags, place_or(other, own));
+        flags.raise(other.unwrap_or(own));
     }
 }
 
@@ -199,16 +185,22 @@ pub fn arity(tables: &[u16], tag: Tag) -> u16
 }
 
 // The place of the activity of a tag, if it is enabled: its operands are found by their ports.
-pub fn enabled_by_tag(tables: &Tables, links: &Links, ledger: &[u8], used: usize, tag: Tag) -> Found
+pub fn enabled_by_tag(
+    tables: &Tables,
+    links: &Links,
+    ledger: &[u8],
+    used: usize,
+    tag: Tag,
+) -> Option<usize>
     requires { Known links.now ledger.now used }
     ensures { (result ≡ enabled_at tables.now (tokens used ledger.now) tag) × FoundWithin result used }
 {
     let first = store_chains::find(links, ledger, used, tag, 0);
     let second = store_chains::find(links, ledger, used, tag, 1);
     if ready(ledger, first, second, arity(tables, tag)) {
-        Found::At(earlier(place_or(first, used), place_or(second, used)))
+        Some(first.unwrap_or(used).min(second.unwrap_or(used)))
     } else {
-        Found::Nothing
+        None
     }
 }
 
@@ -271,7 +263,7 @@ pub fn enter(
     if let Content::Live(_) = content {
         let other = slot.partner;
         if completes(ledger, other, arity(tables, tag)) {
-            store_flags::raise(flags, place_or(other, used));
+            flags.raise(other.unwrap_or(used));
         }
     }
 }
@@ -304,12 +296,12 @@ pub fn change(
 // Spends the operands of an enabled activity, which stand at its place and at another; where one is waited for, both are its place. The
 // activity is enabled no more, and its flag stands at its place, so nothing has to be searched for.
 pub fn spend_operands(flags: &mut Flags, ledger: &mut [u8], place: usize, other: usize)
-    requires { Counted flags.old × (get_or (flags_of flags.old) place 0 ≡ 1) × (place < 2048) × (place < length ledger.old / token_width) × (other < length ledger.old / token_width) }
+    requires { (get_or flags.old place 0 ≡ 1) × (place < 2048) × (place < length ledger.old / token_width) × (other < length ledger.old / token_width) }
     ensures ledger_after { ledger.new ≡ states_spent ledger.old place other }
     ensures by_index { (tables links : List ℕ) (used : ℕ) → Stored tables links flags.old ledger.old used → Spendable ledger.old used place other
         → (tokens used ledger.new ≡ tokens_spent used ledger.old place other) × Stored tables links flags.new ledger.new used }
 {
     ledger[place * token::WIDTH + token::STATE] = 1;
     ledger[other * token::WIDTH + token::STATE] = 1;
-    store_flags::lower(flags, place);
+    flags.lower(place);
 }

@@ -10,7 +10,7 @@ use lib.Dec.{eqb}
 use lib.ListN.{length, get_or, take, drop, set, length-drop, length-set, get_or-append}
 use lib.Seq.{drop-drop, take-set-lt, take-set-le, drop-set-lt, drop-set-add, get_or-take, get_or-drop, get_or-append-add, length-take-le, get_or-set_same, get_or-set_other, set-append_left}
 use borrow.Author.Tests.{eqb-true, eqb-false}
-use Rattle.store_flags.specs.Flags.{ones, blocks, Tallied}
+use Rattle.store_flags.specs.Flags.{ones, blocks, FlagList, Tallied}
 use Rattle.store_flags.proofs.Laws.{Binary, ones_split, ones_set, ones_at, ones_le}
 
 -- ---- blocks of one width
@@ -60,6 +60,17 @@ module _ (w : ℕ) where
         omega (arith, ones_at (take w p) j, get_or-take w p j 0 h, get_or-drop k l j 0),
         ones_le w p (λ i. rw (get_or-drop k l i 0) (b (k + i))),
       )
+
+-- the groups together
+pub four_groups : (l : List ℕ) → FlagList l
+    → (ones (take 512 l) + ones (take 512 (drop 512 l)) + ones (take 512 (drop 1024 l)) + ones (take 512 (drop 1536 l)) ≡ ones l) × (ones l ≤ 2048)
+four_groups l c =
+    let at = λ (g : ℕ) (h : g < 4). get_d_blocks 512 4 g l h in
+    let few = λ (k : ℕ). (part_bounds 512 k 0 l c.binary (omega arith)).1 in
+    let all = ones_blocks 512 4 l c.size in (
+      omega (arith, all, at 0 (omega arith), at 1 (omega arith), at 2 (omega arith), at 3 (omega arith)),
+      omega (arith, all, at 0 (omega arith), at 1 (omega arith), at 2 (omega arith), at 3 (omega arith), few 0, few 512, few 1024, few 1536),
+    )
 
 -- ---- the invariant
 

@@ -136,6 +136,12 @@ ones_places i [] b = refl
 ones_places i (zero ∷ l) b = omega (arith, ones_places (suc i) l (λ j. b (suc j)))
 ones_places i (suc x ∷ l) b = omega (arith, b 0, ones_places (suc i) l (λ j. b (suc j)))
 
+-- whatever stands in the list, it has no more places
+pub places_le : (i : ℕ) (l : List ℕ) → length (places_from i l) ≤ ones l
+places_le i [] = omega arith
+places_le i (zero ∷ l) = omega (arith, places_le (suc i) l)
+places_le i (suc x ∷ l) = omega (arith, places_le (suc i) l)
+
 pub place_places : (i k : ℕ) (l : List ℕ) → Binary l → k < ones l → get_or (places_from i l) k 0 ≡ i + place k l
 place_places i k [] b h = absurd (not-suc-le-zero h)
 place_places i k (zero ∷ l) b h =

@@ -5,11 +5,11 @@ use mathlib.Core.Bool.{Bool, true, false, ◌&&◌, cond}
 use mathlib.Core.List.{List, [], ◌∷◌, ◌++◌, map, append_assoc}
 use native.Mathlib.Omega.{arith}
 use native.Mathlib.Nat.{not-suc-le-zero, le_of_suc-le-suc}
-use lib.ListN.{length, get_or, set, replicate, length-append, get_or-append}
+use lib.ListN.{length, get_or, set, replicate, length-append, get_or-append, length-replicate}
 use lib.Dec.{eqb}
 use lib.Seq.{set-append_left, get_or-append-add}
 use borrow.Author.Tests.{eq-eqb, ne_eqb}
-use Rattle.store_flags.specs.Flags.{places_from, places}
+use Rattle.store_flags.specs.Flags.{places_from, places, FlagList}
 use Rattle.store_flags.specs.Marks.{bit, places_where, first_of, leads, without, marks, Marked}
 use Rattle.store_flags.proofs.Laws.{places_zeros, zero_at}
 
@@ -210,3 +210,23 @@ module _ {A : Type 0} (same : A → A → Bool) where
         let s : m ++ 0 ∷ z ≡ (m ++ 0 ∷ []) ++ z = sym (append_assoc m (0 ∷ []) z) in
         rw (n, w, k, s, marks_append f g t e l)
         (set-append_left (m ++ 0 ∷ []) z (first_of same t l) (bit (g t)) (omega (arith, length_marks f l, length-append m (0 ∷ []), first_le t l)))
+
+-- they are 2,048 flags, each 0 or 1
+
+marks_binary : {A : Type 0} (same : A → A → Bool) (on : A → Bool) (l : List A) (n i : ℕ) → get_or (marks same on l ++ replicate n 0) i 0 ≤ 1
+marks_binary same on [] n i = omega (arith, zero_at n i)
+marks_binary same on (x ∷ l) n zero = go (on x)
+  where
+    go : (b : Bool) → bit b ≤ 1
+    go true = omega arith
+    go false = omega arith
+marks_binary same on (x ∷ l) n (suc i) = marks_binary same (without same x on) l n i
+
+pub marked_list : {A : Type 0} (same : A → A → Bool) (on : A → Bool) (l : List A) (flags : List ℕ) → length l ≤ 2048 → Marked same on l flags → FlagList flags
+unfolding Marked
+marked_list same on l flags few m =
+    let ms = marks same on l in
+    rw m record {
+      size = omega (arith, length-append ms (replicate (2048 - length l) 0), length_marks same on l, length-replicate {A = ℕ} (2048 - length l) 0);
+      binary = λ i. marks_binary same on l (2048 - length l) i;
+    }

@@ -7,10 +7,9 @@ use native.Mathlib.Nat.{pow-suc}
 use lib.ListN.{length, get_or, take, drop, take-append-drop}
 use lib.Seq.{drop-drop}
 use borrow.Author.Tests.{lt-ltb}
-use Rattle.store_flags.specs.Flags.{ones, place, places, minus, Under, FirstIn, digits, in_word, flags_of, Counted}
-use Rattle.store_flags.proofs.Laws.{Binary, ones_split, ones_past, ones_places, place_later, place_skip, place_left, place_places, place_lt}
+use Rattle.store_flags.specs.Flags.{ones, place, places, minus, Under, FlagList, FirstIn, digits, in_word}
+use Rattle.store_flags.proofs.Laws.{Binary, ones_split, ones_past, ones_places, places_le, place_later, place_skip, place_left, place_places, place_lt}
 use Rattle.store_flags.proofs.Digits.{word_size}
-use Rattle.store_flags.proofs.Words.{words_size, words_word, block_count, group_count}
 
 -- ---- lists of one length
 
@@ -75,6 +74,18 @@ minus_ones [] (y ∷ m) h = absurd h
 minus_ones (x ∷ l) [] h = absurd h
 minus_ones (x ∷ l) (y ∷ m) h = omega (arith, minus_ones l m h.1, h.0)
 
+-- whatever is taken away, no part has more
+minus_few : (n : ℕ) (l m : List ℕ) → ones (take n (minus l m)) ≤ ones (take n l)
+minus_few zero l m = omega arith
+minus_few (suc n) [] m = omega arith
+minus_few (suc n) (x ∷ l) [] = omega arith
+minus_few (suc n) (x ∷ l) (y ∷ m) = omega (arith, minus_few n l m)
+
+minus_fewer : (l m : List ℕ) → ones (minus l m) ≤ ones l
+minus_fewer [] m = omega arith
+minus_fewer (x ∷ l) [] = omega arith
+minus_fewer (x ∷ l) (y ∷ m) = omega (arith, minus_fewer l m)
+
 minus_binary : (l m : List ℕ) → Binary l → Binary (minus l m)
 minus_binary [] m b i = b i
 minus_binary (x ∷ l) [] b i = b i
@@ -105,94 +116,84 @@ before_first (suc m) [] h = refl
 before_first (suc m) (zero ∷ l) h = omega (arith, before_first m l (omega (arith, place_later 0 0 l (omega arith))))
 before_first (suc m) (suc x ∷ l) h = absurd (omega (arith, rw (lt-ltb 0 (suc x) (omega arith)) at h))
 
--- ---- in all words
+-- ---- the flags that are left
 
-module _ {fs hs : List ℕ} (c : Counted fs) (d : Counted hs) (u : Under (flags_of hs) (flags_of fs)) where
-  abbrev pub rest : List ℕ
-  rest = minus (flags_of fs) (flags_of hs)
+module _ {fs hs : List ℕ} (c : FlagList fs) (d : FlagList hs) (u : Under hs fs) where
+  each : Each≤ hs fs
+  each = each_of hs fs (d.size ∙ sym c.size) u
 
-  each : Each≤ (flags_of hs) (flags_of fs)
-  each = each_of (flags_of hs) (flags_of fs) (words_size d.summed ∙ sym (words_size c.summed)) u
+  pub rest_list : FlagList (minus fs hs)
+  rest_list = record { size = minus_length fs hs ∙ c.size; binary = minus_binary fs hs c.binary }
 
-  pub rest_size : length rest ≡ 2048
-  rest_size = minus_length (flags_of fs) (flags_of hs) ∙ words_size c.summed
-
-  pub rest_binary : Binary rest
-  rest_binary = minus_binary (flags_of fs) (flags_of hs) c.tallied.binary
-
-  pub rest_ones : ones rest + ones (flags_of hs) ≡ ones (flags_of fs)
-  rest_ones = minus_ones (flags_of fs) (flags_of hs) each
+  pub rest_ones : ones (minus fs hs) + ones hs ≡ ones fs
+  rest_ones = minus_ones fs hs each
 
   -- of a part
-  part_ones : (from n : ℕ) → ones (take n (drop from rest)) + ones (take n (drop from (flags_of hs))) ≡ ones (take n (drop from (flags_of fs)))
+  part_ones : (from n : ℕ) → ones (take n (drop from (minus fs hs))) + ones (take n (drop from hs)) ≡ ones (take n (drop from fs))
   part_ones from n =
-      let e = each_drop from (flags_of hs) (flags_of fs) each in
-      rw (minus_drop from (flags_of fs) (flags_of hs) each, minus_take n (drop from (flags_of fs)) (drop from (flags_of hs)) e)
-      (minus_ones (take n (drop from (flags_of fs))) (take n (drop from (flags_of hs))) (each_take n (drop from (flags_of hs)) (drop from (flags_of fs)) e))
+      let e = each_drop from hs fs each in
+      rw (minus_drop from fs hs each, minus_take n (drop from fs) (drop from hs) e)
+      (minus_ones (take n (drop from fs)) (take n (drop from hs)) (each_take n (drop from hs) (drop from fs) e))
 
-  pub rest_block : (b : ℕ) → b < 32 → (get_or hs (33 + b) 0 ≤ get_or fs (33 + b) 0) × (get_or fs (33 + b) 0 - get_or hs (33 + b) 0 ≡ ones (take 64 (drop (b * 64) rest)))
-  rest_block b h = let p = part_ones (b * 64) 64 in let x = block_count c b h in let y = block_count d b h in (omega arith, omega arith)
+  pub rest_part : (from n x y : ℕ) → x ≡ ones (take n (drop from fs)) → y ≡ ones (take n (drop from hs)) → (y ≤ x) × (x - y ≡ ones (take n (drop from (minus fs hs))))
+  rest_part from n x y p q = let e = part_ones from n in (omega arith, omega arith)
 
-  pub rest_group : (g : ℕ) → g < 4 → (get_or hs (65 + g) 0 ≤ get_or fs (65 + g) 0) × (get_or fs (65 + g) 0 - get_or hs (65 + g) 0 ≡ ones (take 512 (drop (g * 512) rest)))
-  rest_group g h = let p = part_ones (g * 512) 512 in let x = group_count c g h in let y = group_count d g h in (omega arith, omega arith)
-
-  module _ (b : ℕ) (h : b < 32) where
-    pub rest_under : Under (in_word (get_or hs b 0)) (in_word (get_or fs b 0))
+  module _ (b w v : ℕ) (p : in_word w ≡ take 64 (drop (b * 64) fs)) (q : in_word v ≡ take 64 (drop (b * 64) hs)) where
+    pub rest_under : Under (in_word v) (in_word w)
     rest_under =
-        rw (← words_word c.summed b h, ← words_word d.summed b h)
-        (under_of (take 64 (drop (b * 64) (flags_of hs))) (take 64 (drop (b * 64) (flags_of fs)))
-        (each_take 64 (drop (b * 64) (flags_of hs)) (drop (b * 64) (flags_of fs)) (each_drop (b * 64) (flags_of hs) (flags_of fs) each)))
+        rw (p, q)
+        (under_of (take 64 (drop (b * 64) hs)) (take 64 (drop (b * 64) fs))
+        (each_take 64 (drop (b * 64) hs) (drop (b * 64) fs) (each_drop (b * 64) hs fs each)))
 
-    pub rest_word : take 64 (drop (b * 64) rest) ≡ minus (in_word (get_or fs b 0)) (in_word (get_or hs b 0))
+    pub rest_word : minus (in_word w) (in_word v) ≡ take 64 (drop (b * 64) (minus fs hs))
     rest_word =
-        let e = each_drop (b * 64) (flags_of hs) (flags_of fs) each in
-        rw (minus_drop (b * 64) (flags_of fs) (flags_of hs) each, minus_take 64 (drop (b * 64) (flags_of fs)) (drop (b * 64) (flags_of hs)) e, words_word c.summed b h, words_word d.summed b h) refl
+        let e = each_drop (b * 64) hs fs each in
+        rw (minus_drop (b * 64) fs hs each, minus_take 64 (drop (b * 64) fs) (drop (b * 64) hs) e, p, q) refl
 
-  pub rest_among : (k : ℕ) → k < length (places rest) → k < ones rest
-  rest_among k h = omega (arith, ones_places 0 rest rest_binary)
+-- from the first word of the flags that has any on, those that are left are all
+pub first_from : (fs hs : List ℕ) (b : ℕ) → b * 64 ≤ place 0 fs → ones (drop (b * 64) (minus fs hs)) ≡ ones (minus fs hs)
+first_from fs hs b h =
+    let z = before_first (b * 64) fs h in
+    omega (arith, ones_split (b * 64) (minus fs hs), minus_few (b * 64) fs hs)
 
-  pub rest_selected : (k : ℕ) → k < ones rest → (r : ℕ) → r ≡ place k rest → (r ≡ get_or (places rest) k 0) × (r < 2048)
-  rest_selected k h r e =
-      let p = place_places 0 k rest rest_binary h in
-      (omega arith, omega (arith, place_lt k rest h, rest_size))
+-- where no flag is set none is left
+pub none_whole : (fs hs : List ℕ) → ones fs ≡ 0 → length (places (minus fs hs)) ≡ 0
+none_whole fs hs h = omega (arith, minus_fewer fs hs, places_le 0 (minus fs hs))
 
-  -- ---- the first
+-- ---- a search
+
+module _ {l : List ℕ} (c : FlagList l) where
+  pub among : (k : ℕ) → k < length (places l) → k < ones l
+  among k h = omega (arith, ones_places 0 l c.binary)
+
+  pub selected : (k : ℕ) → k < ones l → (r : ℕ) → r ≡ place k l → (r ≡ get_or (places l) k 0) × (r < 2048)
+  selected k h r e =
+      let p = place_places 0 k l c.binary h in
+      (omega arith, omega (arith, place_lt k l h, c.size))
 
   -- those from a word on are all
   abbrev pub AllFrom : (b : ℕ) → Type 0
-  AllFrom b = ones (drop (b * 64) rest) ≡ ones rest
-
-  pub first_from_lem : (b : ℕ) → b * 64 ≤ place 0 (flags_of fs) → AllFrom b
-  first_from_lem b h =
-      let p = part_ones 0 (b * 64) in
-      let z = before_first (b * 64) (flags_of fs) h in
-      omega (arith, ones_split (b * 64) rest)
+  AllFrom b = ones (drop (b * 64) l) ≡ ones l
 
   -- a word that has none is passed
-  pub word_passed : (b w : ℕ) → in_word w ≡ take 64 (drop (b * 64) rest) → ones (in_word w) ≡ 0 → AllFrom b → AllFrom (b + 1)
+  pub word_passed : (b w : ℕ) → in_word w ≡ take 64 (drop (b * 64) l) → ones (in_word w) ≡ 0 → AllFrom b → AllFrom (b + 1)
   word_passed b w e none all =
       let m : b * 64 + 64 ≡ (b + 1) * 64 = omega arith in
-      let behind : ones (drop 64 (drop (b * 64) rest)) ≡ ones (drop ((b + 1) * 64) rest) = ap ones (drop-drop 64 (b * 64) rest) ∙ ap (λ (n : ℕ). ones (drop n rest)) m in
-      omega (arith, ap ones e, ones_split 64 (drop (b * 64) rest), behind)
+      let behind : ones (drop 64 (drop (b * 64) l)) ≡ ones (drop ((b + 1) * 64) l) = ap ones (drop-drop 64 (b * 64) l) ∙ ap (λ (n : ℕ). ones (drop n l)) m in
+      omega (arith, ap ones e, ones_split 64 (drop (b * 64) l), behind)
 
   -- in one that has some, the first is found
-  pub word_found : (b w : ℕ) → b < 32 → in_word w ≡ take 64 (drop (b * 64) rest) → 0 < ones (in_word w) → AllFrom b → (r : ℕ) → r ≡ b * 64 + place 0 (in_word w) → FirstIn rest r
+  pub word_found : (b w : ℕ) → b < 32 → in_word w ≡ take 64 (drop (b * 64) l) → 0 < ones (in_word w) → AllFrom b → (r : ℕ) → r ≡ b * 64 + place 0 (in_word w) → FirstIn l r
   word_found b w h e some from r f =
-      let d = drop (b * 64) rest in
+      let d = drop (b * 64) l in
       let here : 0 < ones (take 64 d) = omega (arith, ap ones e) in
       let left : place 0 d ≡ place 0 (in_word w) = ap (place 0) (sym (take-append-drop 64 d)) ∙ place_left 0 (take 64 d) (drop 64 d) here ∙ ap (place 0) (sym e) in
-      let before : ones (take (b * 64) rest) ≡ 0 = omega (arith, ones_split (b * 64) rest) in
-      let none : 0 - ones (take (b * 64) rest) ≡ 0 = omega arith in
-      let at : place 0 rest ≡ b * 64 + place 0 d = place_skip (b * 64) 0 rest (omega (arith, rest_size)) (omega arith) ∙ ap (λ (n : ℕ). b * 64 + place n d) none in
-      let all : 0 < ones rest = omega (arith, ones_split 64 d) in
-      let sel = rest_selected 0 all r (f ∙ sym (at ∙ ap (λ (n : ℕ). b * 64 + n) left)) in
-      record { found = λ l. (omega (arith, ones_places 0 rest rest_binary), sel.0); none = λ l. absurd (omega (arith, sel.1)) }
+      let before : ones (take (b * 64) l) ≡ 0 = omega (arith, ones_split (b * 64) l) in
+      let none : 0 - ones (take (b * 64) l) ≡ 0 = omega arith in
+      let at : place 0 l ≡ b * 64 + place 0 d = place_skip (b * 64) 0 l (omega (arith, c.size)) (omega arith) ∙ ap (λ (n : ℕ). b * 64 + place n d) none in
+      let all : 0 < ones l = omega (arith, ones_split 64 d) in
+      let sel = selected 0 all r (f ∙ sym (at ∙ ap (λ (n : ℕ). b * 64 + n) left)) in
+      record { some = omega (arith, ones_places 0 l c.binary); first = sel.0; low = sel.1 }
 
-  none_there : ones rest ≡ 0 → FirstIn rest 2048
-  none_there h = record { found = λ l. absurd (omega arith); none = λ l. omega (arith, ones_places 0 rest rest_binary) }
-
-  pub none_behind : (b : ℕ) → 32 ≤ b → AllFrom b → FirstIn rest 2048
-  none_behind b h all = none_there (omega (arith, ones_past rest (b * 64) (omega (arith, rest_size))))
-
-  pub none_whole : ones (flags_of fs) ≡ 0 → FirstIn rest 2048
-  none_whole h = none_there (omega (arith, rest_ones))
+  pub none_behind : (b : ℕ) → 32 ≤ b → AllFrom b → length (places l) ≡ 0
+  none_behind b h all = omega (arith, ones_past l (b * 64) (omega (arith, c.size)), ones_places 0 l c.binary)

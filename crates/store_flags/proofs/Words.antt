@@ -10,7 +10,7 @@ use lib.Dec.{eqb}
 use borrow.Author.Tests.{eq-eqb, ne_eqb}
 use lib.ListN.{take-append-drop, length, get_or, set, take, drop, replicate, length-append, length-set, length-map, get_or-append, get_or-map}
 use lib.Seq.{take-append_seam, drop-append-add, take-set-lt, take-set-le, drop-set-lt, drop-set-add, get_or-set_same, get_or-set_other, get_or-take, get_or-drop, length-take-le, set-append_left}
-use Rattle.store_flags.specs.Flags.{ones, place, in_word, flags_in, flags_of, at_most_one, any_set, Summed, Counted}
+use Rattle.store_flags.specs.Flags.{ones, place, in_word, flags_in, flags_of, at_most_one, any_set, FlagList, Summed, Counted}
 use Rattle.store_flags.proofs.Laws.{ones_append, ones_none, ones_at, place_left, place_right, tallied_none}
 use Rattle.store_flags.proofs.Blocks as Blocks
 use Rattle.store_flags.proofs.Blocks.{set_append_add, block_is, group_is, block_bounds, groups_all, tallied_set}
@@ -133,17 +133,17 @@ module _ {ws : List ℕ} (s : Summed ws) where
 
   words_in : 0 < ones (flags_of ws)
       → let b = place 0 (map any_set (take 32 ws)) in
-      (0 < ones (map any_set (take 32 ws))) × (b < 32) × (0 < get_or ws b 0) × (place 0 (flags_of ws) ≡ b * 64 + place 0 (in_word (get_or ws b 0)))
+      (0 < ones (map any_set (take 32 ws))) × (b < 32) × (0 < ones (in_word (get_or ws b 0))) × (place 0 (flags_of ws) ≡ b * 64 + place 0 (in_word (get_or ws b 0)))
   unfolding flags_of
   words_in p =
       let some = in_some 32 ws p in
       let l = in_first 32 ws (omega (arith, s.count)) some in
-      (some, l.0, word_positive _ l.1, l.2)
+      (some, l.0, l.1, l.2)
 
   -- the last word's first one is the first word that has any
   pub words_first : 0 < ones (flags_of ws)
       → let b = place 0 (in_word (get_or ws 32 0)) in
-      (0 < get_or ws 32 0) × (b < 32) × (0 < get_or ws b 0) × (place 0 (flags_of ws) ≡ b * 64 + place 0 (in_word (get_or ws b 0)))
+      (0 < get_or ws 32 0) × (b < 32) × (0 < ones (in_word (get_or ws b 0))) × (place 0 (flags_of ws) ≡ b * 64 + place 0 (in_word (get_or ws b 0)))
   words_first p =
       let marks = map any_set (take 32 ws) in
       let first = words_in p in
@@ -191,6 +191,9 @@ counted_none = record {
 
 -- the counts
 module _ {ws : List ℕ} (c : Counted ws) where
+  pub flag_list : FlagList (flags_of ws)
+  flag_list = record { size = c.tallied.size; binary = c.tallied.binary }
+
   count_at : (j n : ℕ) → n ≡ 33 + j → get_or ws n 0 ≡ get_or (drop 33 ws) j 0
   count_at j n e = ap (λ (m : ℕ). get_or ws m 0) e ∙ sym (get_or-drop 33 ws j 0)
 

@@ -38,10 +38,16 @@ minus (x ∷ l) (y ∷ m) = (x - y) ∷ minus l m
 abbrev pub Under : List ℕ → List ℕ → Type 0
 Under m l = (i : ℕ) → get_or m i 0 ≤ get_or l i 0
 
--- where the first of them stands, or 2,048 if there is none
+-- where the first of them stands
 pub record FirstIn (l : List ℕ) (r : ℕ) : Type 0 where
-  pub found : r < 2048 → (0 < length (places l)) × (r ≡ get_or (places l) 0 0)
-  pub none : 2048 ≤ r → length (places l) ≡ 0
+  pub some : 0 < length (places l)
+  pub first : r ≡ get_or (places l) 0 0
+  pub low : r < 2048
+
+-- 2,048 flags, each 0 or 1
+pub record FlagList (l : List ℕ) : Type 0 where
+  pub size : length l ≡ 2048
+  pub binary : (i : ℕ) → get_or l i 0 ≤ 1
 
 -- 2,048 flags, each 0 or 1, with their counts by blocks and, behind those, by groups of eight blocks
 pub record Tallied (flags counts : List ℕ) : Type 0 where

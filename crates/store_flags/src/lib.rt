@@ -4,13 +4,13 @@
 // by words and by groups of eight words.
 #![tactic(auto)]
 
-ghost use Rattle.std.specs.Prelude.{◌≡◌, ◌+◌, ◌-◌, ◌*◌, ◌≤◌, ◌<◌, eqb, length, get_or, set, take, drop};
-ghost use Rattle.store_flags.specs.Flags.{ones, place, places, minus, Under, FirstIn, in_word, flags_of, any_set, Summed, Counted};
+ghost use Rattle.std.specs.Prelude.{◌≡◌, ℕ, ◌+◌, ◌-◌, ◌*◌, ◌≤◌, ◌<◌, List, eqb, length, get_or, set, take, drop, replicate, MatchOption};
+ghost use Rattle.store_flags.specs.Flags.{ones, place, places, minus, Under, FlagList, FirstIn, in_word, any_set};
+
+use std::marker::Model;
 
 // The words of the flags, with what is known of them behind.
-pub const LENGTH: usize = 69;
-
-pub type Flags = [u64; LENGTH];
+const LENGTH: usize = 69;
 
 // Where the word stands that says which words have any, and where the counts of the first word and of the first group do.
 const ANY: usize = 32;
@@ -18,6 +18,23 @@ const ANY: usize = 32;
 const COUNTS: usize = 33;
 
 const GROUPS: usize = 65;
+
+// Clauses see the list of the 2,048 flags, each 0 or 1.
+#[derive(Drop)]
+pub struct Flags {
+    words: [u64; LENGTH],
+}
+
+impl Model for Flags {
+    ghost use Rattle.std.specs.Prelude.{List, ℕ};
+    ghost use Rattle.store_flags.specs.Flags.{flags_of, Counted};
+
+    ghost Value = { List ℕ };
+
+    ghost view = { λ f. flags_of f.words };
+
+    ghost invariant = { λ f. Counted f.words };
+}
 
 // ---- one word
 
@@ -94,132 +111,6 @@ fn select_in(word: u64, on: usize, k: usize) -> usize
     lowest(rest)
 }
 
-// ---- all words
-
-// Raises flag i, which is lowered, and its word's mark.
-pub fn raise(flags: &mut Flags, i: usize)
-    requires { (i < 2048) × Counted flags.old × (get_or (flags_of flags.old) i 0 ≡ 0) }
-    ensures flags_after { flags_of flags.new ≡ set (flags_of flags.old) i 1 }
-    ensures counted { Counted flags.new }
-{
-    let b = i / 64;
-    let word = flags[b];
-    flags[b] = raised(word, i % 64);
-    let marks = flags[ANY];
-    flags[ANY] = marked(marks, b);
-    let in_word = flags[COUNTS + b];
-    flags[COUNTS + b] = in_word + 1;
-    let in_group = flags[GROUPS + i / 512];
-    flags[GROUPS + i / 512] = in_group + 1;
-}
-
-// Lowers flag i, which is raised. If it was the last one of its word, the word's mark goes too.
-pub fn lower(flags: &mut Flags, i: usize)
-    requires { (i < 2048) × Counted flags.old × (get_or (flags_of flags.old) i 0 ≡ 1) }
-    ensures flags_after { flags_of flags.new ≡ set (flags_of flags.old) i 0 }
-    ensures counted { Counted flags.new }
-{
-    let b = i / 64;
-    let word = lowered(flags[b], i % 64);
-    flags[b] = word;
-    let marks = flags[ANY];
-    flags[ANY] = unmark(marks, b, word);
-    let in_word = flags[COUNTS + b];
-    flags[COUNTS + b] = in_word - 1;
-    let in_group = flags[GROUPS + i / 512];
-    flags[GROUPS + i / 512] = in_group - 1;
-}
-
-pub fn is_raised(flags: &Flags, i: usize) -> bool
-    requires { (i < 2048) × Counted flags.now }
-    ensures { result ≡ eqb (get_or (flags_of flags.now) i 0) 1 }
-{
-    (flags[i / 64] >> (i % 64)) % 2 == 1
-}
-
-// The number of ones.
-pub fn count(flags: &Flags) -> usize
-    requires { Counted flags.now }
-    ensures { result ≡ length (places (flags_of flags.now)) }
-{
-    (flags[GROUPS] + flags[GROUPS + 1] + flags[GROUPS + 2] + flags[GROUPS + 3]) as usize
-}
-
-// Whether there is none.
-pub fn is_empty(flags: &Flags) -> bool
-    requires { Counted flags.now }
-    ensures { result ≡ eqb (length (places (flags_of flags.now))) 0 }
-{
-    has_none(flags[ANY])
-}
-
-// The place of the first one, where there is one.
-fn first(flags: &Flags) -> usize
-    requires { Summed flags.now × (0 < ones (flags_of flags.now)) }
-    ensures { result ≡ place 0 (flags_of flags.now) }
-{
-    let b = lowest(flags[ANY]);
-    b * 64 + lowest(flags[b])
-}
-
-// The place of one number k of those from a word on: the words before the one that has it are passed by their counts.
-fn select_block(flags: &Flags, from: usize, k: usize) -> usize
-    requires { Counted flags.now × (k < ones (drop (from * 64) (flags_of flags.now))) }
-    ensures { result ≡ from * 64 + place k (drop (from * 64) (flags_of flags.now)) }
-{
-    let mut b = from;
-    let mut left = k;
-    while b < 32 {
-        let n = flags[COUNTS + b] as usize;
-        if left < n {
-            return b * 64 + select_in(flags[b], n, left);
-        }
-        left -= n;
-        b += 1;
-    }
-    0
-}
-
-// The place of one number k: its group is found by the groups' counts, and its word from there on.
-fn select_group(flags: &Flags, k: usize) -> usize
-    requires { Counted flags.now × (k < ones (flags_of flags.now)) }
-    ensures { result ≡ place k (flags_of flags.now) }
-{
-    let mut g = 0;
-    let mut left = k;
-    while g < 4 {
-        let n = flags[GROUPS + g] as usize;
-        if left < n {
-            return select_block(flags, g * 8, left);
-        }
-        left -= n;
-        g += 1;
-    }
-    0
-}
-
-// The place of one number k.
-pub fn select(flags: &Flags, k: usize) -> usize
-    requires { Counted flags.now × (k < length (places (flags_of flags.now))) }
-    ensures { (result ≡ get_or (places (flags_of flags.now)) k 0) × (result < 2048) }
-{
-    if k == 0 {
-        first(flags)
-    } else {
-        select_group(flags, k)
-    }
-}
-
-// ---- flags but for those of another set, each of which is set here too: of the enabled activities those that are not held back
-
-// The number of ones.
-pub fn count_but(flags: &Flags, held: &Flags) -> usize
-    requires { Counted flags.now × Counted held.now × Under (flags_of held.now) (flags_of flags.now) }
-    ensures { result ≡ length (places (minus (flags_of flags.now) (flags_of held.now))) }
-{
-    count(flags) - count(held)
-}
-
 // The flags of a word but for those of another.
 fn without(word: u64, held: u64) -> u64
     requires { Under (in_word held) (in_word word) }
@@ -228,88 +119,274 @@ fn without(word: u64, held: u64) -> u64
     word - held
 }
 
-// The flags of word b.
-fn word_but(flags: &Flags, held: &Flags, b: usize) -> u64
-    requires { Counted flags.now × Counted held.now × Under (flags_of held.now) (flags_of flags.now) × (b < 32) }
-    ensures { in_word result ≡ take 64 (drop (b * 64) (minus (flags_of flags.now) (flags_of held.now))) }
-{
-    without(flags[b], held[b])
+// ---- flags in words, by the words and the counts of their ones
+
+trait FlagWords {
+    ghost flags: { Self → List ℕ };
+
+    // The flags of word b.
+    fn word(&self, b: usize) -> u64
+        requires { b < 32 }
+        ensures value { in_word result ≡ take 64 (drop (b * 64) (flags self.now)) }
+        ensures list { FlagList (flags self.now) };
+
+    // How many ones word b has, and group g.
+    fn ones_in_word(&self, b: usize) -> usize
+        requires { b < 32 }
+        ensures value { result ≡ ones (take 64 (drop (b * 64) (flags self.now))) }
+        ensures list { FlagList (flags self.now) };
+
+    fn ones_in_group(&self, g: usize) -> usize
+        requires { g < 4 }
+        ensures value { result ≡ ones (take 512 (drop (g * 512) (flags self.now))) }
+        ensures list { FlagList (flags self.now) };
 }
 
-// How many ones word b has, and group g.
-fn in_word_but(flags: &Flags, held: &Flags, b: usize) -> usize
-    requires { Counted flags.now × Counted held.now × Under (flags_of held.now) (flags_of flags.now) × (b < 32) }
-    ensures { result ≡ ones (take 64 (drop (b * 64) (minus (flags_of flags.now) (flags_of held.now)))) }
+// The number of ones.
+fn count<S: FlagWords>(set: &S) -> usize
+    ensures value { result ≡ length (places (S.flags set.now)) }
+    ensures list { FlagList (S.flags set.now) }
 {
-    (flags[COUNTS + b] - held[COUNTS + b]) as usize
+    set.ones_in_group(0) + set.ones_in_group(1) + set.ones_in_group(2) + set.ones_in_group(3)
 }
 
-fn in_group_but(flags: &Flags, held: &Flags, g: usize) -> usize
-    requires { Counted flags.now × Counted held.now × Under (flags_of held.now) (flags_of flags.now) × (g < 4) }
-    ensures { result ≡ ones (take 512 (drop (g * 512) (minus (flags_of flags.now) (flags_of held.now)))) }
+// The place of one number k of those from a word on: the words before the one that has it are passed by their counts.
+fn select_block<S: FlagWords>(set: &S, from: usize, k: usize) -> usize
+    requires { (from < 32) × (k < ones (drop (from * 64) (S.flags set.now))) }
+    ensures { result ≡ from * 64 + place k (drop (from * 64) (S.flags set.now)) }
 {
-    (flags[GROUPS + g] - held[GROUPS + g]) as usize
-}
-
-// The place of one number k of those from a word on.
-fn select_block_but(flags: &Flags, held: &Flags, from: usize, k: usize) -> usize
-    requires { Counted flags.now × Counted held.now × Under (flags_of held.now) (flags_of flags.now) × (k < ones (drop (from * 64) (minus (flags_of flags.now) (flags_of held.now)))) }
-    ensures { result ≡ from * 64 + place k (drop (from * 64) (minus (flags_of flags.now) (flags_of held.now))) }
-{
-    let mut b = from;
     let mut left = k;
-    while b < 32 {
-        let n = in_word_but(flags, held, b);
+    for b in from..32 {
+        let n = set.ones_in_word(b);
         if left < n {
-            return b * 64 + select_in(word_but(flags, held, b), n, left);
+            return b * 64 + select_in(set.word(b), n, left);
         }
         left -= n;
-        b += 1;
     }
     0
 }
 
-// The place of one number k, where there is one.
-fn select_group_but(flags: &Flags, held: &Flags, k: usize) -> usize
-    requires { Counted flags.now × Counted held.now × Under (flags_of held.now) (flags_of flags.now) × (k < ones (minus (flags_of flags.now) (flags_of held.now))) }
-    ensures { result ≡ place k (minus (flags_of flags.now) (flags_of held.now)) }
+// The place of one number k: its group is found by the groups' counts, and its word from there on.
+fn select<S: FlagWords>(set: &S, k: usize) -> usize
+    requires { k < length (places (S.flags set.now)) }
+    ensures { (result ≡ get_or (places (S.flags set.now)) k 0) × (result < 2048) }
 {
-    let mut g = 0;
     let mut left = k;
-    while g < 4 {
-        let n = in_group_but(flags, held, g);
+    for g in 0..4 {
+        let n = set.ones_in_group(g);
         if left < n {
-            return select_block_but(flags, held, g * 8, left);
+            return select_block(set, g * 8, left);
         }
         left -= n;
-        g += 1;
     }
     0
 }
 
-// The place of one number k.
-pub fn select_but(flags: &Flags, held: &Flags, k: usize) -> usize
-    requires { Counted flags.now × Counted held.now × Under (flags_of held.now) (flags_of flags.now) × (k < length (places (minus (flags_of flags.now) (flags_of held.now)))) }
-    ensures { (result ≡ get_or (places (minus (flags_of flags.now) (flags_of held.now))) k 0) × (result < 2048) }
-{
-    select_group_but(flags, held, k)
+// ---- all flags
+
+impl FlagWords for Flags {
+    ghost flags = { λ f. f };
+
+    fn word(&self, b: usize) -> u64 {
+        self.words[b]
+    }
+
+    fn ones_in_word(&self, b: usize) -> usize {
+        self.words[COUNTS + b] as usize
+    }
+
+    fn ones_in_group(&self, g: usize) -> usize {
+        self.words[GROUPS + g] as usize
+    }
 }
 
-// The place of the first one, or 2,048 where there is none. The words from the first that has any are looked at in turn.
-pub fn first_but(flags: &Flags, held: &Flags) -> usize
-    requires { Counted flags.now × Counted held.now × Under (flags_of held.now) (flags_of flags.now) }
-    ensures { FirstIn (minus (flags_of flags.now) (flags_of held.now)) result }
-{
-    if is_empty(flags) {
-        return 2048;
+impl Flags {
+    // With none raised.
+    pub fn new() -> Flags
+        ensures { result ≡ replicate 2048 0 }
+    {
+        Flags { words: [0; LENGTH] }
     }
-    let mut b = lowest(flags[ANY]);
-    while b < 32 {
-        let word = word_but(flags, held, b);
-        if !has_none(word) {
-            return b * 64 + lowest(word);
+
+    // Raises flag i, which is lowered, and its word's mark.
+    pub fn raise(&mut self, i: usize)
+        requires { (i < 2048) × (get_or self.old i 0 ≡ 0) }
+        ensures flags_after { self.new ≡ set self.old i 1 }
+        ensures list { FlagList self.new }
+    {
+        let b = i / 64;
+        let word = self.words[b];
+        self.words[b] = raised(word, i % 64);
+        let marks = self.words[ANY];
+        self.words[ANY] = marked(marks, b);
+        let in_word = self.words[COUNTS + b];
+        self.words[COUNTS + b] = in_word + 1;
+        let in_group = self.words[GROUPS + i / 512];
+        self.words[GROUPS + i / 512] = in_group + 1;
+    }
+
+    // Lowers flag i, which is raised. If it was the last one of its word, the word's mark goes too.
+    pub fn lower(&mut self, i: usize)
+        requires { (i < 2048) × (get_or self.old i 0 ≡ 1) }
+        ensures flags_after { self.new ≡ set self.old i 0 }
+        ensures list { FlagList self.new }
+    {
+        let b = i / 64;
+        let word = lowered(self.words[b], i % 64);
+        self.words[b] = word;
+        let marks = self.words[ANY];
+        self.words[ANY] = unmark(marks, b, word);
+        let in_word = self.words[COUNTS + b];
+        self.words[COUNTS + b] = in_word - 1;
+        let in_group = self.words[GROUPS + i / 512];
+        self.words[GROUPS + i / 512] = in_group - 1;
+    }
+
+    pub fn is_raised(&self, i: usize) -> bool
+        requires { i < 2048 }
+        ensures value { result ≡ eqb (get_or self.now i 0) 1 }
+        ensures list { FlagList self.now }
+    {
+        (self.words[i / 64] >> (i % 64)) % 2 == 1
+    }
+
+    // The flags of word b, the first in its lowest bit.
+    pub fn word_at(&self, b: usize) -> u64
+        requires { b < 32 }
+        ensures value { in_word result ≡ take 64 (drop (b * 64) self.now) }
+        ensures list { FlagList self.now }
+    {
+        self.word(b)
+    }
+
+    // The number of ones.
+    pub fn count(&self) -> usize
+        ensures value { result ≡ length (places self.now) }
+        ensures list { FlagList self.now }
+    {
+        count(self)
+    }
+
+    // Whether there is none.
+    pub fn is_empty(&self) -> bool
+        ensures value { result ≡ eqb (length (places self.now)) 0 }
+        ensures list { FlagList self.now }
+    {
+        has_none(self.words[ANY])
+    }
+
+    // The first word that has any, where there is one.
+    fn first_word(&self) -> usize
+        requires { 0 < ones self.now }
+        ensures low { result < 32 }
+        ensures some { 0 < ones (take 64 (drop (result * 64) self.now)) }
+        ensures first { place 0 self.now ≡ result * 64 + place 0 (take 64 (drop (result * 64) self.now)) }
+    {
+        lowest(self.words[ANY])
+    }
+
+    // The place of the first one, where there is one.
+    fn first(&self) -> usize
+        requires { 0 < ones self.now }
+        ensures value { result ≡ place 0 self.now }
+        ensures list { FlagList self.now }
+    {
+        let b = self.first_word();
+        b * 64 + lowest(self.words[b])
+    }
+
+    // The place of one number k. The first is found with no loop.
+    pub fn select(&self, k: usize) -> usize
+        requires { k < length (places self.now) }
+        ensures { (result ≡ get_or (places self.now) k 0) × (result < 2048) }
+    {
+        if k == 0 {
+            self.first()
+        } else {
+            select(self, k)
         }
-        b += 1;
     }
-    2048
+}
+
+// ---- flags but for those of another set, each of which is set here too: of the enabled activities those that are not held back
+
+// Clauses see the flags that are left.
+#[derive(Drop)]
+pub struct Free<'a> {
+    flags: &'a Flags,
+    held: &'a Flags,
+}
+
+impl<'a> Model for Free<'a> {
+    ghost use Rattle.std.specs.Prelude.{List, ℕ};
+    ghost use Rattle.store_flags.specs.Flags.{minus, Under};
+
+    ghost Value = { List ℕ };
+
+    ghost view = { λ f. minus f.flags.now f.held.now };
+
+    ghost invariant = { λ f. Under f.held.now f.flags.now };
+}
+
+impl<'a> FlagWords for Free<'a> {
+    ghost flags = { λ f. f };
+
+    fn word(&self, b: usize) -> u64 {
+        let word = self.flags.word(b);
+        let held = self.held.word(b);
+        without(word, held)
+    }
+
+    fn ones_in_word(&self, b: usize) -> usize {
+        let flags = self.flags.ones_in_word(b);
+        let held = self.held.ones_in_word(b);
+        flags - held
+    }
+
+    fn ones_in_group(&self, g: usize) -> usize {
+        let flags = self.flags.ones_in_group(g);
+        let held = self.held.ones_in_group(g);
+        flags - held
+    }
+}
+
+impl<'a> Free<'a> {
+    pub fn new(flags: &'a Flags, held: &'a Flags) -> Free<'a>
+        requires { Under held.now flags.now }
+        ensures { result ≡ minus flags.now held.now }
+    {
+        Free { flags, held }
+    }
+
+    // The number of ones.
+    pub fn count(&self) -> usize
+        ensures { result ≡ length (places self.now) }
+    {
+        count(self)
+    }
+
+    // The place of one number k.
+    pub fn select(&self, k: usize) -> usize
+        requires { k < length (places self.now) }
+        ensures { (result ≡ get_or (places self.now) k 0) × (result < 2048) }
+    {
+        select(self, k)
+    }
+
+    // The place of the first one. The words from the first that has any are looked at in turn.
+    pub fn first(&self) -> Option<usize>
+        ensures { MatchOption result (length (places self.now) ≡ 0) (FirstIn self.now) }
+    {
+        let flags = self.flags;
+        if flags.is_empty() {
+            return None;
+        }
+        for b in flags.first_word()..32 {
+            let word = self.word(b);
+            if !has_none(word) {
+                return Some(b * 64 + lowest(word));
+            }
+        }
+        None
+    }
 }

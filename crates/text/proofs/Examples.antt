@@ -14,8 +14,8 @@ use Rattle.rules.specs.declared.answer.Refusal.TheVariants.{LedgerFull, NoReturn
 use Rattle.rules.specs.declared.answer.Outcome.{Outcome}
 use Rattle.rules.specs.declared.answer.Outcome.TheVariants.{Completed, Hung, Spent, Refused}
 use Rattle.rules.specs.declared.answer.Answer.{Answer}
-use Rattle.text.specs.declared.Printed.TheVariants.{Done, TooSmall}
 use Rattle.text.specs.Words.{bytes}
+use Rattle.std.specs.Prelude.{Ok, Err}
 use Rattle.text.specs.Text.{decimal, signed_decimal, answer_line, token_line, cell_line, printed, printed_of, printed_out}
 
 -- ---- numbers at the ends of their ranges
@@ -91,14 +91,14 @@ printed_ends = refl
 
 -- ---- a buffer as long as the text, one byte shorter, and one byte longer
 
-pub exact : (printed_of text01 (replicate 65 7) ≡ Done 65) × (printed_out text01 (replicate 65 7) ≡ text01)
+pub exact : (printed_of text01 (replicate 65 7) ≡ Ok 65) × (printed_out text01 (replicate 65 7) ≡ text01)
 unfolding printed_of printed_out
 exact = (refl, refl)
 
-pub one_less : (printed_of text01 (replicate 64 7) ≡ TooSmall) × (printed_out text01 (replicate 64 7) ≡ replicate 64 7)
+pub one_less : (printed_of text01 (replicate 64 7) ≡ Err (record {})) × (printed_out text01 (replicate 64 7) ≡ replicate 64 7)
 unfolding printed_of printed_out
 one_less = (refl, refl)
 
-pub one_more : (printed_of text01 (replicate 66 7) ≡ Done 65) × (printed_out text01 (replicate 66 7) ≡ text01 ++ 7 ∷ [])
+pub one_more : (printed_of text01 (replicate 66 7) ≡ Ok 65) × (printed_out text01 (replicate 66 7) ≡ text01 ++ 7 ∷ [])
 unfolding printed_of printed_out
 one_more = (refl, refl)

@@ -32,8 +32,8 @@ use Rattle.rules.specs.declared.answer.Outcome.{Outcome}
 use Rattle.rules.specs.declared.answer.Outcome.TheVariants as Outcomes
 use Rattle.rules.specs.declared.answer.Answer.{Answer}
 use Rattle.text.specs.Words.{bytes}
+use Rattle.std.specs.Prelude.{Ok, Err}
 use Rattle.text.specs.Text.{decimal, signed_decimal, line, outcome_fields, state_word, answer_line, token_line, stated_line, cell_line, cell_lines, lines, printed, printed_of}
-use Rattle.text.specs.declared.Printed.TheVariants.{Done, TooSmall}
 use Rattle.text.specs.Room.{AnswerFits, most_bytes_of}
 use Rattle.text.proofs.Paths.{path_short}
 use Rattle.text.proofs.Decimals.{at_most, short}
@@ -226,16 +226,16 @@ line_short a listing cells f bl bc h (suc i) lt = go (leb (suc i) (length listin
 
 -- where there is so much room, printing is done
 pub fits_in : (a : Answer) (listing cells out : List ℕ) → AnswerFits a → Bytes listing → Bytes cells → length cells < 2 ^ 64
-    → 74 + most_bytes_of listing cells ≤ length out → printed_of (printed a listing cells) out ≡ Done (length (printed a listing cells))
+    → 74 + most_bytes_of listing cells ≤ length out → printed_of (printed a listing cells) out ≡ Ok (length (printed a listing cells))
 unfolding printed_of
 fits_in a listing cells out f bl bc h room =
     rw (le-leb (length (printed a listing cells)) (length out) (omega (arith, text_within a listing cells f bl bc h)))
 
 -- and what is written is within what is lent
-pub done_within : (text out : List ℕ) (n : ℕ) → printed_of text out ≡ Done n → n ≤ length out
+pub done_within : (text out : List ℕ) (n : ℕ) → printed_of text out ≡ Ok n → n ≤ length out
 unfolding printed_of
-done_within text out n e = go (leb (length text) (length out)) refl e
+done_within text out n e = go (leb (length text) (length out)) refl
   where
-    go : (b : Bool) → leb (length text) (length out) ≡ b → cond b (Done (length text)) TooSmall ≡ Done n → n ≤ length out
-    go true p q = let r : length text ≡ n = cc in omega (arith, leb-true (length text) (length out) p)
-    go false p q = let z : ◌≡◌ {A = ℕ} 0 1 = cc in absurd (omega arith)
+    go : (b : Bool) → leb (length text) (length out) ≡ b → n ≤ length out
+    go true p = let q = rw p at e in let r : length text ≡ n = cc in omega (arith, leb-true (length text) (length out) p)
+    go false p = let q = rw p at e in absurd (cc)

@@ -1,6 +1,6 @@
 -- 01, "The printed listing", from "One space parts two fields" on, in its order: the printed lines as bytes, of answer, listing and cells alone.
 -- Assumes nothing.
-use Rattle.std.specs.Prelude.{ℕ, zero, suc, ◌+◌, ◌/◌, ◌%◌, true, false, cond, List, [], ◌∷◌, ◌++◌, map, length, drop, ltb, leb, ℤ, pos, negsuc}
+use Rattle.std.specs.Prelude.{ℕ, zero, suc, ◌+◌, ◌/◌, ◌%◌, true, false, cond, List, [], ◌∷◌, ◌++◌, map, length, drop, ltb, leb, ℤ, pos, negsuc, Result, Ok, Err}
 use Rattle.buffer.specs.Rows.{all_rows, joined}
 use Rattle.record.specs.Paths.{path_number}
 use Rattle.record.specs.TokensAndTags as Tokens
@@ -16,8 +16,7 @@ use Rattle.rules.specs.declared.answer.Outcome.{Outcome}
 use Rattle.rules.specs.declared.answer.Outcome.TheVariants as Outcomes
 use Rattle.rules.specs.declared.answer.Answer.{Answer}
 use Rattle.text.specs.Words.{bytes}
-use Rattle.text.specs.declared.Printed.{Printed}
-use Rattle.text.specs.declared.Printed.TheVariants.{Done, TooSmall}
+use Rattle.text.specs.declared.TooSmall.{TooSmall}
 use Rattle.record.specs.TokensAndTags.{value_in}
 
 -- ---- "decimal figures are meant" (01, opening): a number in the fewest digits, 0 as one digit
@@ -99,9 +98,9 @@ printed a listing cells = joined (λ (l : List ℕ). l) (lines a listing cells)
 
 -- ---- into a lent buffer: "bytes past what is written stay as lent" ("Tokens and tags")
 
--- how many bytes were written; none where the text does not fit
-unfoldable pub printed_of : (text out : List ℕ) → Printed
-printed_of text out = cond (leb (length text) (length out)) (Done (length text)) TooSmall
+-- how many bytes were written, unless the text does not fit
+unfoldable pub printed_of : (text out : List ℕ) → Result ℕ TooSmall
+printed_of text out = cond (leb (length text) (length out)) (Ok (length text)) (Err (record {}))
 
 unfoldable pub printed_out : (text out : List ℕ) → List ℕ
 printed_out text out = cond (leb (length text) (length out)) (text ++ drop (length text) out) out

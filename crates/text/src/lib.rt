@@ -16,13 +16,20 @@ use record::cell::Cell;
 use record::tag::Path;
 use record::{cell, token};
 use rules::answer::{Answer, Outcome};
+use std::error::Error;
+use std::fmt;
 
-#[derive(Clone, Copy)]
-pub enum Printed {
-    // How many bytes were written.
-    Done(usize),
-    TooSmall,
+// The text does not fit the buffer.
+#[derive(Clone, Copy, Debug, PartialEq, Eq)]
+pub struct TooSmall;
+
+impl fmt::Display for TooSmall {
+    fn fmt<W: fmt::Write>(&self, f: &mut fmt::Formatter<W>) -> fmt::Result {
+        f.write_str("too small")
+    }
 }
+
+impl Error for TooSmall {}
 
 // The bytes of the longest lines, with 39 digits to a path and 20 to a number of 64 bits: of a refused
 // answer, of a token, which is the longest of all, and of a cell.
@@ -101,14 +108,12 @@ fn fits(answer: Answer, listing: &[u8], cells: &[u8], room: usize) -> bool
     let n = count(listing, cells);
     let mut line = [0u8; TOKEN];
     let mut left = room;
-    let mut j = 0;
-    while j < n {
+    for j in 0..n {
         let k = put_line(&mut line, 0, answer, listing, cells, j);
         if left < k {
             return false;
         }
         left -= k;
-        j += 1;
     }
     true
 }
@@ -124,14 +129,12 @@ fn put_tokens(out: &mut [u8], from: usize, listing: &[u8]) -> usize
     let mut last = Path { low: 0, high: 0 };
     let mut count = line::make_path(&mut text, last);
     let mut at = from;
-    let mut i = 0;
-    while i < n {
+    for i in 0..n {
         let row = buffer::row_at(listing, token::WIDTH, i);
         let path = line::path_of(row);
         count = line::keep_path(&mut text, count, last, path);
         last = path;
         at = line::put_record(out, at, &small, &text, count, row);
-        i += 1;
     }
     at
 }
@@ -183,6 +186,7 @@ fn put_cells(out: &mut [u8], from: usize, cells: &[u8]) -> usize
     let n = cells.len() / cell::WIDTH;
     let mut at = from;
     let mut k = 0;
+    // No `for`: an iteration puts a cell, or passes one or eight that are absent.
     while k < n {
         let absent = passed_over(cells, k);
         if absent == 0 {
@@ -205,15 +209,20 @@ fn write(answer: Answer, listing: &[u8], cells: &[u8], out: &mut [u8]) -> usize
     put_cells(out, tokens, cells)
 }
 
-// Prints an answer, the tokens of a listing and the cells that are not absent to the start of `out`.
-// `out` stays untouched unless the whole text fits.
-pub fn print(answer: Answer, listing: &[u8], cells: &[u8], out: &mut [u8]) -> Printed
+// Prints an answer, the tokens of a listing and the cells that are not absent to the start of `out`, and
+// answers how many bytes were written. `out` stays untouched unless the whole text fits.
+pub fn print(
+    answer: Answer,
+    listing: &[u8],
+    cells: &[u8],
+    out: &mut [u8],
+) -> Result<usize, TooSmall>
     ensures value { result ≡ printed_of (printed answer listing.now cells.now) out.old }
     ensures out_after { out.new ≡ printed_out (printed answer listing.now cells.now) out.old }
 {
     if fits(answer, listing, cells, out.len()) {
-        Printed::Done(write(answer, listing, cells, out))
+        Ok(write(answer, listing, cells, out))
     } else {
-        Printed::TooSmall
+        Err(TooSmall)
     }
 }

@@ -52,9 +52,7 @@ fn put_last_digits(out: &mut [u8], at: usize, k: usize, n: u64) -> usize
     ensures { AddedText out.old out.new at result (last_digits k n) }
 {
     let mut rest = n;
-    let mut left = k;
-    while 0 < left {
-        left -= 1;
+    for left in (0..k).rev() {
         out[at + left] = 48 + (rest % 10) as u8;
         rest /= 10;
     }
@@ -135,9 +133,7 @@ fn put_path_digits(out: &mut [u8], at: usize, k: usize, path: Path) -> usize
     ensures { AddedText out.old out.new at result (last_digits k (path_number path)) }
 {
     let mut rest = path;
-    let mut left = k;
-    while 0 < left {
-        left -= 1;
+    for left in (0..k).rev() {
         let d = by_ten(rest);
         out[at + left] = 48 + d.digit;
         rest = d.quotient;

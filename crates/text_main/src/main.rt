@@ -5,14 +5,12 @@
 ghost use Rattle.std.specs.Prelude.{◌≡◌, ◌*◌, ◌≤◌, length};
 ghost use Rattle.record.specs.Widths.{token_width, cell_width};
 
-use console::{say, say_decimal};
 use record::cell::Cell;
 use record::tag::{Path, Tag};
 use record::token::{Content, Token};
 use record::{cell, token};
 use rules::answer::{Answer, Outcome, Refusal};
 use std::io;
-use text::Printed;
 
 fn show(
     rt: &impl Print,
@@ -22,17 +20,15 @@ fn show(
     out: &mut [u8],
 ) -> io::Result<()> {
     match text::print(answer, listing, cells, out) {
-        Printed::Done(n) => {
-            say(rt, b"done ")?;
-            say_decimal(rt, n as u64)?;
-            say(rt, b"\n")?;
+        Ok(n) => {
+            println!(rt; "done {n}")?;
         }
-        Printed::TooSmall => {
-            say(rt, b"too small\n")?;
+        Err(error) => {
+            println!(rt; "{error}")?;
         }
     }
-    say(rt, out)?;
-    say(rt, b"\n")
+    rt.write_all(out)?;
+    println!(rt)
 }
 
 // In a buffer of `bytes` bytes.

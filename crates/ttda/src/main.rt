@@ -9,7 +9,7 @@ use console::read_full;
 use record::{array, instruction, pick, token};
 use std::env::{Env, FillError};
 use std::{fs, io};
-use text::Printed;
+use text::TooSmall;
 
 // The system's number for a name that is too long.
 const ENAMETOOLONG: i32 = 36;
@@ -117,12 +117,12 @@ fn show(
     out: &mut [u8],
 ) {
     match printing::print_run(graph, arrays, inputs, picks, out) {
-        Printed::Done(n) => {
+        Ok(n) => {
             if let Err(error) = rt.write_all(&out[..n]) {
                 fail(rt, "write", error);
             }
         }
-        Printed::TooSmall => {
+        Err(TooSmall) => {
             fail(rt, "text", io::Error::other("too long"));
         }
     }

@@ -3,7 +3,7 @@
 
 mod common;
 
-use std::collections::BTreeMap;
+use std::collections::{BTreeMap, BTreeSet};
 use std::fs;
 use std::io::{BufRead, BufReader, Read, Write};
 use std::net::{Shutdown, TcpStream};
@@ -467,26 +467,31 @@ fn line_ends_stay() {
     );
 }
 
+/// The sockets of this computer that listen: each one's own address and its inode, which tells it from every other.
+fn listening_sockets() -> Vec<(String, String)> {
+    let tables = ["/proc/net/tcp", "/proc/net/tcp6"]
+        .map(|file| fs::read_to_string(file).unwrap_or_default());
+    let lines = tables.iter().flat_map(|table| table.lines());
+    let words = lines.map(|line| line.split_whitespace().collect::<Vec<_>>());
+    words
+        .filter(|words| words.get(3) == Some(&"0A") && words.len() > 9)
+        .map(|words| (words[1].to_string(), words[9].to_string()))
+        .collect()
+}
+
 #[test]
 fn it_listens_on_this_computer_alone() {
     let studio = Studio::new(TEXT.as_bytes());
     let port: u16 = studio.host.split_once(':').unwrap().1.parse().unwrap();
-    let tables = ["/proc/net/tcp", "/proc/net/tcp6"]
-        .map(|file| fs::read_to_string(file).unwrap_or_default());
     let ends = format!(":{port:04X}");
-    let is_listening = |line: &&str| line.split_whitespace().nth(3) == Some("0A");
-    let lines = tables
+    // While other sockets come and go, one reading of the table may show a socket twice or pass over it.
+    let own: BTreeSet<(String, String)> = (0..3).flat_map(|_| listening_sockets()).collect();
+    let own: Vec<&String> = own
         .iter()
-        .flat_map(|table| table.lines())
-        .filter(is_listening);
-    let places: Vec<&str> = lines
-        .filter_map(|line| line.split_whitespace().nth(1))
+        .map(|(address, _)| address)
+        .filter(|address| address.ends_with(&ends))
         .collect();
-    let own: Vec<&&str> = places
-        .iter()
-        .filter(|place| place.ends_with(&ends))
-        .collect();
-    assert_eq!(own, [&format!("0100007F{ends}").as_str()]);
+    assert_eq!(own, [&format!("0100007F{ends}")]);
     let file = studio.folder.path("open.ttda");
     let taken = dayomlak(&["studio", &file, "--port", &port.to_string()]);
     assert_eq!(taken.status, 3, "{taken:?}");

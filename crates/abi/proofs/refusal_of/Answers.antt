@@ -1,106 +1,10 @@
--- `abi::refusal_of` meets its contract: an arm's number computes to its refusal, and the last arm's is no refusal's. Assumes nothing.
+-- `abi::refusal_of` meets its contract: the number of the last arm is no refusal's. Assumes nothing.
+use Rattle.std.specs.Prelude.{Some, None}
 use Rattle.rules.specs.Answer.{number_of}
-use Rattle.abi.specs.declared.Numbered.TheVariants.{One, NoRefusal}
 use Rattle.abi.specs.Numbers.{refusals, refusal_of}
 use Rattle.record.proofs.LastArm.{last_arm}
 use Rattle.abi.proofs.refusal_of.Goals as goal
 
-pub returns-in-1 : goal.returns-in-1
-unfolding refusal_of
-returns-in-1 c = rw c.in-1.is
-
-pub returns-in-2 : goal.returns-in-2
-unfolding refusal_of
-returns-in-2 c = rw c.in-2.is
-
-pub returns-in-3 : goal.returns-in-3
-unfolding refusal_of
-returns-in-3 c = rw c.in-3.is
-
-pub returns-in-4 : goal.returns-in-4
-unfolding refusal_of
-returns-in-4 c = rw c.in-4.is
-
-pub returns-in-5 : goal.returns-in-5
-unfolding refusal_of
-returns-in-5 c = rw c.in-5.is
-
-pub returns-in-6 : goal.returns-in-6
-unfolding refusal_of
-returns-in-6 c = rw c.in-6.is
-
-pub returns-in-7 : goal.returns-in-7
-unfolding refusal_of
-returns-in-7 c = rw c.in-7.is
-
-pub returns-in-8 : goal.returns-in-8
-unfolding refusal_of
-returns-in-8 c = rw c.in-8.is
-
-pub returns-in-9 : goal.returns-in-9
-unfolding refusal_of
-returns-in-9 c = rw c.in-9.is
-
-pub returns-in-10 : goal.returns-in-10
-unfolding refusal_of
-returns-in-10 c = rw c.in-10.is
-
-pub returns-in-11 : goal.returns-in-11
-unfolding refusal_of
-returns-in-11 c = rw c.in-11.is
-
-pub returns-in-12 : goal.returns-in-12
-unfolding refusal_of
-returns-in-12 c = rw c.in-12.is
-
-pub returns-in-13 : goal.returns-in-13
-unfolding refusal_of
-returns-in-13 c = rw c.in-13.is
-
-pub returns-in-14 : goal.returns-in-14
-unfolding refusal_of
-returns-in-14 c = rw c.in-14.is
-
-pub returns-in-17 : goal.returns-in-17
-unfolding refusal_of
-returns-in-17 c = rw c.in-17.is
-
-pub returns-in-18 : goal.returns-in-18
-unfolding refusal_of
-returns-in-18 c = rw c.in-18.is
-
-pub returns-in-19 : goal.returns-in-19
-unfolding refusal_of
-returns-in-19 c = rw c.in-19.is
-
-pub returns-in-20 : goal.returns-in-20
-unfolding refusal_of
-returns-in-20 c = rw c.in-20.is
-
-pub returns-in-21 : goal.returns-in-21
-unfolding refusal_of
-returns-in-21 c = rw c.in-21.is
-
-pub returns-in-22 : goal.returns-in-22
-unfolding refusal_of
-returns-in-22 c = rw c.in-22.is
-
-pub returns-in-23 : goal.returns-in-23
-unfolding refusal_of
-returns-in-23 c = rw c.in-23.is
-
-pub returns-in-24 : goal.returns-in-24
-unfolding refusal_of
-returns-in-24 c = rw c.in-24.is
-
-pub returns-in-25 : goal.returns-in-25
-unfolding refusal_of
-returns-in-25 c = rw c.in-25.is
-
-pub returns-in-26 : goal.returns-in-26
-unfolding refusal_of
-returns-in-26 c = rw c.in-26.is
-
 pub returns-in_default : goal.returns-in_default
 unfolding refusal_of
-returns-in_default c = last_arm number_of One (λ n. NoRefusal) refusals c.args.word c.in_default.in_default-own.rest
+returns-in_default c = last_arm number_of Some (λ n. None) refusals c.args.word c.in_default.in_default-own.rest

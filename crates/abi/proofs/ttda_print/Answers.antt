@@ -6,10 +6,10 @@ use Rattle.abi.proofs.ttda_print.Goals as goal
 pub returns-in_default : goal.returns-in_default
 returns-in_default c = let none = sym c.unpack.ensures ∙ c.in_default.is in record { value = rw none; out_after = rw none }
 
-pub returns-in-Done : goal.returns-in-Done
-returns-in-Done c =
-    let e = sym c.unpack.ensures ∙ c.in-Answered.is in record { value = rw e (ap length_of (sym c.in-Done.is ∙ c.print.ensures.value)); out_after = rw e c.print.ensures.out_after }
+pub returns-in-Ok : goal.returns-in-Ok
+returns-in-Ok c =
+    let e = sym c.unpack.ensures ∙ c.in-Some.is in record { value = rw e (ap length_of (sym c.in-Ok.is ∙ c.print.ensures.value)); out_after = rw e c.print.ensures.out_after }
 
-pub returns-in-TooSmall : goal.returns-in-TooSmall
-returns-in-TooSmall c =
-    let e = sym c.unpack.ensures ∙ c.in-Answered.is in record { value = rw e (ap length_of (sym c.in-TooSmall.is ∙ c.print.ensures.value)); out_after = rw e c.print.ensures.out_after }
+pub returns-in-Err : goal.returns-in-Err
+returns-in-Err c =
+    let e = sym c.unpack.ensures ∙ c.in-Some.is in record { value = rw e (ap length_of (sym c.in-Err.is ∙ c.print.ensures.value)); out_after = rw e c.print.ensures.out_after }

@@ -18,7 +18,7 @@ returns-then-serves c =
     let a = c.args in
     let kept = request a.kept_graph.now a.kept_arrays.now a.kept_inputs.now a.kept_picks.now at-limits-in.result in
     let asked = request a.graph.now a.arrays.now a.inputs.now a.picks.now c.limits_in-asked.result in
-    let e = sym c.unpack.ensures ∙ c.in-Answered.is in
+    let e = sym c.unpack.ensures ∙ c.in-Some.is in
     rw (← at-limits-in.ensures, ← c.limits_in-asked.ensures)
     (by_answer kept a.kept_answer a.kept_held asked _ c.serves.result 1 e c.serves.ensures (rw c.if-serves.true))
 
@@ -28,6 +28,6 @@ returns-else-serves c =
     let a = c.args in
     let kept = request a.kept_graph.now a.kept_arrays.now a.kept_inputs.now a.kept_picks.now at-limits-in.result in
     let asked = request a.graph.now a.arrays.now a.inputs.now a.picks.now c.limits_in-asked.result in
-    let e = sym c.unpack.ensures ∙ c.in-Answered.is in
+    let e = sym c.unpack.ensures ∙ c.in-Some.is in
     rw (← at-limits-in.ensures, ← c.limits_in-asked.ensures)
     (by_answer kept a.kept_answer a.kept_held asked _ c.serves.result 0 e c.serves.ensures (rw c.if-serves.false))

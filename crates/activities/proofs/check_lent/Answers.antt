@@ -1,9 +1,9 @@
 -- `activities::check_lent` meets its contract. Assumes nothing.
-use Rattle.check_fields.proofs.Turns.{stopped}
+use Rattle.check_fields.proofs.Turns.{handed_on}
 use Rattle.activities.proofs.check_lent.Goals as goal
 
-pub returns-in_default : goal.returns-in_default
-returns-in_default c = rw (← c.check-of_graph.ensures) (stopped _ _ _ _ c.in_default.is)
+pub returns-in_err-check : goal.returns-in_err-check
+returns-in_err-check c = rw (handed_on c.from_residual.ensures, ← c.check.ensures, c.in_err-check.was)
 
 pub returns : goal.returns
-returns c = rw (← c.check-of_graph.ensures, c.in-Passed.is, ← c.check.ensures) c.check-2.ensures
+returns c = rw (← c.check.ensures, c.in_ok-check.was, ← c.check-2.ensures) c.check-3.ensures

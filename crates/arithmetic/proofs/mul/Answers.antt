@@ -1,28 +1,9 @@
--- `arithmetic::mul` meets its contract: the product of two numbers of 32 bits fits 64. Assumes nothing.
-use borrow.Author.Rules.{rules}
+-- `arithmetic::mul` meets its contract. Assumes nothing.
 use mir.Facts.{to_z-of_z}
 use Rattle.arithmetic.specs.Arithmetic.{compute_of}
-use Rattle.arithmetic.proofs.Signed.{widened, wide_fits, product_fits}
+use Rattle.arithmetic.proofs.Ranged.{checked}
 use Rattle.arithmetic.proofs.mul.Goals as goal
-
-pub overflow_cast-a : goal.overflow_cast-a
-unfolding compute_of
-overflow_cast-a c = wide_fits c.ranges.a
-
-pub overflow_cast-b : goal.overflow_cast-b
-unfolding compute_of
-overflow_cast-b c = wide_fits c.ranges.b
-
-pub overflow_mul-a : goal.overflow_mul-a
-unfolding compute_of
-overflow_mul-a c = rw (widened c.ranges.a, widened c.ranges.b) (product_fits c.ranges.a c.ranges.b)
-
-pub narrowed-requires : goal.narrowed-requires
-unfolding compute_of
-narrowed-requires c = search rules
 
 pub returns : goal.returns
 unfolding compute_of
-returns c =
-    let f = c.ranges in
-    rw (widened f.a, widened f.b, to_z-of_z (product_fits f.a f.b)) at c.narrowed.ensures
+returns c = checked _ _ (rw (to_z-of_z c.ranges.a, to_z-of_z c.ranges.b) at c.checked_mul.ensures)

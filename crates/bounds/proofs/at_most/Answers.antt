@@ -1,4 +1,5 @@
 -- `bounds::at_most` meets its contract. Assumes nothing.
+use Rattle.std.proofs.Common.{Ok}
 use Prim.Native.Nat.{ℕ}
 use native.Mathlib.Omega.{arith}
 use mathlib.Core.Path.{◌≡◌, ◌∙◌}
@@ -9,10 +10,8 @@ use Rattle.buffer.specs.Rows.{all_rows}
 use Rattle.record.specs.GraphRecords.{graph_of}
 use Rattle.record.specs.Widths.{token_width}
 use Rattle.rules.specs.declared.answer.Refusal.TheVariants.{BadInput}
-use Rattle.rules.specs.declared.answer.Checked.TheVariants.{Passed}
-use Rattle.rules.specs.declared.answer.Needs.TheVariants.{AtMost}
 use Rattle.rules.specs.Check.{demand, in_turn, good_input, check_graph, check_stores}
-use Rattle.rules.specs.Needs.{firings_needed, outputs_needed, inputs_of, check_needs, needs}
+use Rattle.rules.specs.Needs.{firings_needed, outputs_needed, inputs_of, check_needs, needs_at_most, needs}
 use Rattle.check_fields.proofs.Turns.{both-passed}
 use Rattle.check_fields.proofs.Graphs.{length_graph}
 use Rattle.check_inputs.proofs.Tokens.{length_tokens}
@@ -21,18 +20,18 @@ use Rattle.bounds.proofs.Ports.{inputs_inside}
 use Rattle.bounds.proofs.Rounds.{totals}
 use Rattle.bounds.proofs.at_most.Goals as goal
 
-module _ (graph inputs : List ℕ) (passed : check_needs graph inputs ≡ Passed) where
-  graph_passed_lem : check_graph graph ≡ Passed
+module _ (graph inputs : List ℕ) (passed : check_needs graph inputs ≡ Ok tt) where
+  graph_passed_lem : check_graph graph ≡ Ok tt
   unfolding check_needs
   graph_passed_lem = (both-passed (check_graph graph) _ passed).0
 
-  inputs_passed_lem : in_turn (λ i good. demand good BadInput i) 0 (all_rows token_width (good_input (graph_of graph)) inputs) ≡ Passed
+  inputs_passed_lem : in_turn (λ i good. demand good BadInput i) 0 (all_rows token_width (good_input (graph_of graph)) inputs) ≡ Ok tt
   unfolding check_needs
   inputs_passed_lem =
       let later = both-passed (check_stores (length inputs) 0 0 0) _ (both-passed (check_graph graph) _ passed).1 in
       (both-passed (in_turn (λ i good. demand good BadInput i) 0 (all_rows token_width (good_input (graph_of graph)) inputs)) _ later.1).0
 
-alike : {f f' t t' : ℕ} → f ≡ f' → t ≡ t' → AtMost f t ≡ AtMost f' t'
+alike : {f f' t t' : ℕ} → f ≡ f' → t ≡ t' → needs_at_most f t ≡ needs_at_most f' t'
 alike e d = cc
 
 pub given-sent-requires : goal.given-sent-requires

@@ -29,7 +29,7 @@ returns-then-not-good c =
     let h : l.i < length s / token_width = omega arith in
     let e = get_d_rows token_width (good_input g) (length s / token_width) l.i s x h ∙ sym (c.good.ensures ∙ ap (good_input g) c.row_at.ensures) in
     let t = l.invariant.1 ∙ turn (λ k good. demand good BadInput k) (all_rows token_width (good_input g) s) l.i x (omega (arith, length_rows token_width (good_input g) (length s / token_width) s)) e (ap (λ (b : Bool). demand b BadInput l.i) (c.if-not-good.true)) in
-    sym t
+    rw c.at.ensures (sym t)
 
 pub loop-i-preserved : goal.loop-i-preserved
 loop-i-preserved c =

@@ -46,15 +46,11 @@ returns-then-is_second c =
     let k : l.i < length (input_tokens s) = omega (arith, length_tokens s) in
     let e = in_tokens s l.i h x ∙ sym at-token-at.ensures in
     let t = l.invariant.1 ∙ turn (λ k t. demand (not (second_input (take k (input_tokens s)) t)) SecondToken k) (input_tokens s) l.i x k e (ap (λ (b : Bool). demand (not b) SecondToken l.i) (sym c.is_second.ensures ∙ c.if-is_second.true)) in
-    sym t
+    rw c.at.ensures (sym t)
 
 pub bounds-seen-at-in-loop-i : goal.bounds-seen-at-in-loop-i
 unfolding second_input
 bounds-seen-at-in-loop-i c = omega arith
-
-pub overflow_add-i : goal.overflow_add-i
-unfolding second_input
-overflow_add-i c = omega arith
 
 pub loop-i-smaller : goal.loop-i-smaller
 unfolding second_input

@@ -1,5 +1,5 @@
 -- `check_inputs::second` meets its contract. The invariant: the first i inputs passed, so that the rest decides, and the table has an entry for each of these i. Assumes nothing.
-use Prim.Native.Nat.{◌≤◌, ◌-◌, ◌/◌}
+use Prim.Native.Nat.{◌≤◌, ◌/◌}
 use mathlib.Core.Bool.{not}
 use mathlib.Core.Path.{◌≡◌}
 use lib.ListN.{length, take, drop}
@@ -15,6 +15,3 @@ invariant-loop-i l =
     × (check_second l.inputs ≡ in_turn (λ k t. demand (not (second_input (take k (input_tokens l.inputs)) t)) SecondToken k) l.i (drop l.i (input_tokens l.inputs)))
     × SeenEntries (take l.i (input_tokens l.inputs)) l.seen
     × (length l.seen ≡ 512)
-
-abbrev pub decreases-loop-i : goal.decreases-loop-i
-decreases-loop-i l = length l.inputs / token_width - l.i

@@ -1,5 +1,5 @@
 -- `check_inputs::taken` meets its contract. The invariant: none of the first j tokens stands there. Assumes nothing.
-use Prim.Native.Nat.{◌≤◌, ◌-◌}
+use Prim.Native.Nat.{◌≤◌}
 use mathlib.Core.Bool.{false}
 use mathlib.Core.Path.{◌≡◌}
 use lib.ListN.{take}
@@ -10,6 +10,3 @@ use Rattle.check_inputs.proofs.taken.Given as goal
 
 abbrev pub invariant-loop-j : goal.invariant-loop-j
 invariant-loop-j l = (l.j ≤ l.n) × (any (stands_at l.tag l.port) (take l.j (input_tokens l.inputs)) ≡ false)
-
-abbrev pub decreases-loop-j : goal.decreases-loop-j
-decreases-loop-j l = l.n - l.j

@@ -5,15 +5,16 @@ use Rattle.record.specs.GraphRecords.{graph_of}
 use Rattle.record.specs.TokensAndTags.{capacity_of}
 use Rattle.record.specs.Widths.{cell_width}
 use Rattle.rules.specs.Check.{check_inputs}
+use Rattle.check_fields.proofs.Turns.{handed_on}
 use Rattle.checks.proofs.InOrder.{ended_before, last_decides}
 use Rattle.checks.proofs.check_with.Goals as goal
 
-pub returns-in_default : goal.returns-in_default
-returns-in_default c =
+pub returns-in_err-check_lent : goal.returns-in_err-check_lent
+returns-in_err-check_lent c =
     let a = c.args in
-    ended_before a.graph.now a.arrays.now (a.cells / cell_width) a.lent (check_inputs (graph_of a.graph.now) (capacity_of a.ledger) a.inputs.now) _ c.check_lent-before.ensures _ _ c.in_default.is
+    handed_on c.from_residual.ensures ∙ ended_before a.graph.now a.arrays.now (a.cells / cell_width) a.lent (check_inputs (graph_of a.graph.now) (capacity_of a.ledger) a.inputs.now) _ c.check_lent.ensures c.in_err-check_lent.was
 
 pub returns : goal.returns
 returns c =
     let a = c.args in
-    c.check.ensures ∙ last_decides a.graph.now a.arrays.now (a.cells / cell_width) a.lent (check_inputs (graph_of a.graph.now) (capacity_of a.ledger) a.inputs.now) _ c.check_lent-before.ensures c.in-Passed.is
+    c.check.ensures ∙ last_decides a.graph.now a.arrays.now (a.cells / cell_width) a.lent (check_inputs (graph_of a.graph.now) (capacity_of a.ledger) a.inputs.now) _ c.check_lent.ensures c.in_ok-check_lent.was

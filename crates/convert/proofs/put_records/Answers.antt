@@ -27,10 +27,6 @@ pub put_record-requires : goal.put_record-requires
 unfolding converted
 put_record-requires c = let l = c.loop-i in record { rest_bound = c.requires.rest_bound; rest_in_bounds = inside_old c.args.rest c.args.old.now l.i c.loop-i-test.true; rest_in_bounds_2 = inside_new c.args.rest c.args.old.now l.out l.i l.invariant.1 c.loop-i-test.true }
 
-pub overflow_add-i : goal.overflow_add-i
-unfolding converted
-overflow_add-i c = search rules
-
 pub loop-i-smaller : goal.loop-i-smaller
 unfolding converted
 loop-i-smaller c = omega arith

@@ -1,5 +1,5 @@
 -- `convert::put_records` meets its contract. The invariant: the first i records of `out` are those of `old`, widened. Assumes nothing.
-use Prim.Native.Nat.{◌+◌, ◌*◌, ◌/◌, ◌-◌, ◌≤◌}
+use Prim.Native.Nat.{◌+◌, ◌*◌, ◌/◌, ◌≤◌}
 use mathlib.Core.Path.{◌≡◌}
 use lib.ListN.{length, take}
 use Rattle.buffer.specs.Rows.{rows}
@@ -10,6 +10,3 @@ use Rattle.convert.proofs.put_records.Given as goal
 abbrev pub invariant-loop-i : goal.invariant-loop-i
 invariant-loop-i l =
     (l.i ≤ length l.old / (8 + l.rest)) × (length l.out ≡ length l.old / (8 + l.rest) * (16 + l.rest)) × (take (l.i * (16 + l.rest)) l.out ≡ together (rows (8 + l.rest) (widened l.rest) l.i l.old))
-
-abbrev pub decreases-loop-i : goal.decreases-loop-i
-decreases-loop-i l = length l.old / (8 + l.rest) - l.i

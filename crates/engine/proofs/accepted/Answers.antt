@@ -4,7 +4,7 @@ use Rattle.engine.proofs.Accepting.{as_run_lem, as_logged}
 use Rattle.engine.proofs.accepted.Goals as goal
 
 pub begin-used-requires : goal.begin-used-requires
-begin-used-requires c = (c.requires.0, refl, refl)
+begin-used-requires c = (c.requires.0, refl, c.new-flags.ensures)
 
 pub go_on-requires : goal.go_on-requires
 go_on-requires c = (c.begin-used.ensures.prepared, c.begin-used.ensures.running, c.requires.1)

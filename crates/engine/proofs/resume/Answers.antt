@@ -12,13 +12,13 @@ make-requires c = let p = c.requires.0 in (p.graph_passed, p.few_arrays)
 pub take-requires : goal.take-requires
 take-requires c =
     let prepared : Prepared c.args.graph.now c.make.new.out = record { passed = c.requires.0.graph_passed; returns_right = c.make.ensures.returns; arities_right = c.make.ensures.arities } in
-    (prepared, c.requires.0.few, c.requires.0.cell_records.0, c.requires.0.cell_records.1, refl, refl)
+    (prepared, c.requires.0.few, c.requires.0.cell_records.0, c.requires.0.cell_records.1, refl, c.new-flags.ensures)
 
 pub returns-then-not-take : goal.returns-then-not-take
 returns-then-not-take c =
     let a = c.args in
     refuses a.graph.now a.arrays.now a.picks.now a.ledger.now a.cells.now a.budget a.bound a.firings a.used
-    (sym (c.if-not-take.true) ∙ c.take.ensures.value) _ _ c.refused.ensures refl
+    (sym (c.if-not-take.true) ∙ c.take.ensures.value) _ _ (c.refused.ensures ∙ rw c.at.ensures) refl
 
 pub go_on-own-requires : goal.go_on-own-requires
 go_on-own-requires c =

@@ -33,12 +33,12 @@ pub accepted-requires : goal.accepted-requires
 unfolding bounded unless_failed answer ledger_after cells_after
 accepted-requires c =
     let a = c.args in
-    (accepted_bounded a.graph.now a.arrays.now a.inputs.now a.picks.now a.bound (length a.ledger.now) (length a.cells.now) (sym c.check_bounded-checked.ensures ∙ c.in-Passed.is), omega arith)
+    (accepted_bounded a.graph.now a.arrays.now a.inputs.now a.picks.now a.bound (length a.ledger.now) (length a.cells.now) (sym c.check_bounded-checked.ensures ∙ c.in-Ok.is), omega arith)
 
-pub returns-in-Failed : goal.returns-in-Failed
+pub returns-in-Err : goal.returns-in-Err
 unfolding bounded unless_failed answer ledger_after cells_after
-returns-in-Failed c =
-    let e = sym c.check_bounded-checked.ensures ∙ c.in-Failed.is in
+returns-in-Err c =
+    let e = sym c.check_bounded-checked.ensures ∙ c.in-Err.is in
     let a = c.refused.ensures in
     rw e (record { answered = a; numbers = ap values_of a; ledger_left = refl; cells_left = refl })
 
@@ -50,9 +50,9 @@ pub shape_of-cells : goal.shape_of-cells
 unfolding bounded unless_failed answer ledger_after cells_after
 shape_of-cells c = search rules
 
-pub returns-in-Passed : goal.returns-in-Passed
+pub returns-in-Ok : goal.returns-in-Ok
 unfolding bounded unless_failed answer ledger_after cells_after
-returns-in-Passed c =
-    let e = sym c.check_bounded-checked.ensures ∙ c.in-Passed.is in
+returns-in-Ok c =
+    let e = sym c.check_bounded-checked.ensures ∙ c.in-Ok.is in
     let l = c.accepted.ensures.ended_at in
     rw e (record { answered = l.answered; numbers = ap values_of l.answered; ledger_left = l.ledger_left; cells_left = l.cells_left })

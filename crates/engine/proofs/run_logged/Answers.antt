@@ -32,12 +32,12 @@ pub accepted-requires : goal.accepted-requires
 unfolding bound_logged log_unless_failed log_after answer ledger_after cells_after
 accepted-requires c =
     let a = c.args in
-    (accepted_logged a.graph.now a.arrays.now a.inputs.now a.picks.now a.budget a.bound (length a.ledger.now) (length a.cells.now) (length a.log.now) (sym c.check_logged-checked.ensures ∙ c.in-Passed.is), omega arith)
+    (accepted_logged a.graph.now a.arrays.now a.inputs.now a.picks.now a.budget a.bound (length a.ledger.now) (length a.cells.now) (length a.log.now) (sym c.check_logged-checked.ensures ∙ c.in-Ok.is), omega arith)
 
-pub returns-in-Failed : goal.returns-in-Failed
+pub returns-in-Err : goal.returns-in-Err
 unfolding bound_logged log_unless_failed log_after answer ledger_after cells_after
-returns-in-Failed c =
-    let e = sym c.check_logged-checked.ensures ∙ c.in-Failed.is in
+returns-in-Err c =
+    let e = sym c.check_logged-checked.ensures ∙ c.in-Err.is in
     let r = c.refused.ensures in
     rw e (record { answered = r; numbers = ap values_of r; ledger_left = refl; cells_left = refl; log_left = refl })
 
@@ -53,11 +53,11 @@ pub shape_of-log : goal.shape_of-log
 unfolding bound_logged log_unless_failed log_after answer ledger_after cells_after
 shape_of-log c = search rules
 
-pub returns-in-Passed : goal.returns-in-Passed
+pub returns-in-Ok : goal.returns-in-Ok
 unfolding bound_logged log_unless_failed log_after answer ledger_after cells_after
-returns-in-Passed c =
+returns-in-Ok c =
     let a = c.args in
-    let e = sym c.check_logged-checked.ensures ∙ c.in-Passed.is in
+    let e = sym c.check_logged-checked.ensures ∙ c.in-Ok.is in
     let r = c.accepted.ensures in
     let room = rw e at (bound_log_fits a.graph.now a.arrays.now a.inputs.now a.picks.now a.budget a.bound (length a.ledger.now) (length a.cells.now) (length a.log.now)) in
     rw e (record { answered = r.ended_at.answered; numbers = ap values_of r.ended_at.answered; ledger_left = r.ended_at.ledger_left; cells_left = r.ended_at.cells_left; log_left = r.log_after ∙ recorded_all _ a.log.now (omega (arith, room)) })

@@ -1,10 +1,7 @@
 -- `expression_main::say_out` meets its contract: nothing is said, so it is safe and ends. Assumes nothing.
-use Rattle.std.proofs.Common.{length, ◌-◌, ◌/◌, ◌≤◌}
+use Rattle.std.proofs.Common.{length, ◌/◌, ◌≤◌}
 use Rattle.record.specs.Widths.{token_width}
 use Rattle.expression_main.proofs.say_out.Given as goal
 
 abbrev pub invariant-loop-i : goal.invariant-loop-i
 invariant-loop-i g l = l.i ≤ length l.ledger / token_width
-
-abbrev pub decreases-loop-i : goal.decreases-loop-i
-decreases-loop-i g l = length l.ledger / token_width - l.i

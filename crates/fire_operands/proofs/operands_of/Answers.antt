@@ -19,7 +19,7 @@ partner-requires c = place_low c.requires.0 c.requires.1
 pub token_at-u-requires : goal.token_at-u-requires
 token_at-u-requires c =
     let f = c.partner in
-    rw c.place_or-other.ensures (other_within c.requires.0 c.requires.1 _ c.token_at-t.ensures c.if-arity-ne2.false f.result f.ensures)
+    rw c.unwrap_or-other.ensures (other_within c.requires.0 c.requires.1 _ c.token_at-t.ensures c.if-arity-ne2.false f.result f.ensures)
 
 pub returns-then-t-eq0 : goal.returns-then-t-eq0
 returns-then-t-eq0 c =
@@ -27,7 +27,7 @@ returns-then-t-eq0 c =
     let u = c.value_in-value in
     let left : SFits w32 v.result = record { sfits = v.type_inv } in
     let right : SFits w32 u.result = record { sfits = u.type_inv } in
-    rw (to_z-of_z left, to_z-of_z right, v.ensures, u.ensures, c.token_at-u.ensures, c.place_or-other.ensures, ← c.token_at-t.ensures)
+    rw (to_z-of_z left, to_z-of_z right, v.ensures, u.ensures, c.token_at-u.ensures, c.unwrap_or-other.ensures, ← c.token_at-t.ensures)
     (as_first c.requires.0 c.requires.1 _ c.token_at-t.ensures c.if-arity-ne2.false c.partner.result c.partner.ensures c.if-t-eq0.true)
 
 pub returns-else-t-eq0 : goal.returns-else-t-eq0
@@ -36,5 +36,5 @@ returns-else-t-eq0 c =
     let u = c.value_in-value in
     let left : SFits w32 v.result = record { sfits = v.type_inv } in
     let right : SFits w32 u.result = record { sfits = u.type_inv } in
-    rw (to_z-of_z left, to_z-of_z right, v.ensures, u.ensures, c.token_at-u.ensures, c.place_or-other.ensures, ← c.token_at-t.ensures)
+    rw (to_z-of_z left, to_z-of_z right, v.ensures, u.ensures, c.token_at-u.ensures, c.unwrap_or-other.ensures, ← c.token_at-t.ensures)
     (as_second c.requires.0 c.requires.1 _ c.token_at-t.ensures c.if-arity-ne2.false c.partner.result c.partner.ensures c.if-t-eq0.false)

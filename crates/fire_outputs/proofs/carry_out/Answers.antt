@@ -6,7 +6,7 @@ use native.Mathlib.Nat.{le-add_right, le_refl}
 use Prim.Native.Nat.{◌+◌}
 use Rattle.record.specs.TokensAndTags.{tokens}
 use Rattle.store_enabled.proofs.Spending.{spendable_within}
-use Rattle.store.proofs.Laws.{matching_counted, matching_few, matching_room}
+use Rattle.store.proofs.Laws.{matching_few, matching_room}
 use Rattle.fire_outputs.proofs.Laws.{kept_spent, kept_again, kept_as, kept_room, kept_most, on_more, low_content_lem, keys_carried}
 use Rattle.fire_outputs.specs.Outputs.{Kept, spent_at, output_tokens, woken_by, cells_in}
 use Rattle.fire_outputs.proofs.carry_out.Goals as goal
@@ -18,7 +18,7 @@ spend_operands-requires c =
     let few = matching_few l.matching in
     let room = matching_room l.matching in
     let inside = spendable_within l.activity in
-    (matching_counted l.matching, l.raised, omega (arith, inside), omega (arith, inside), omega (arith, inside))
+    (l.raised, omega (arith, inside), omega (arith, inside), omega (arith, inside))
 
 pub change_cells-content-requires : goal.change_cells-content-requires
 change_cells-content-requires c = let p = c.requires in (p.0.store, p.4)

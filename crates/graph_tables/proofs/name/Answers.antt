@@ -45,9 +45,6 @@ bounds-out-i-in-loop-i c =
     let l = c.loop-i in
     omega (arith, c.loop-i-test.true, l.invariant.most, l.invariant.size, length-set l.out (l.i * 2 + 257) c.array_at-a.result.first)
 
-pub overflow_add-i : goal.overflow_add-i
-overflow_add-i c = let l = c.loop-i in omega (arith, l.invariant.few, l.invariant.most)
-
 pub loop-i-smaller : goal.loop-i-smaller
 loop-i-smaller c = omega (arith, c.loop-i-test.true)
 

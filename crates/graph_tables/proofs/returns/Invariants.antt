@@ -9,6 +9,3 @@ use Rattle.graph_tables.proofs.returns.Given as goal
 
 abbrev pub invariant-loop-i : goal.invariant-loop-i
 invariant-loop-i l = (l.i ≤ length l.graph / graph_width) × (length l.out ≡ 641) × Returns (drop l.i (graph_of l.graph)) l.out
-
-abbrev pub decreases-loop-i : goal.decreases-loop-i
-decreases-loop-i l = l.i

@@ -1,57 +1,53 @@
 -- `held::follow` meets its contract: the new records are listed, a spent one no more, and those that are listed are looked at. Assumes nothing.
 use mathlib.Core.Path.{sym, ◌∙◌}
 use Rattle.record.specs.GraphRecords.{graph_of}
-use Rattle.store_flags.specs.Flags.{flags_of}
 use Rattle.held.proofs.Following.{marked_more, standing_more, standing_dropped, under_new, listed_new, clear_dropped, under_dropped, listed_dropped, listed_all}
 use Rattle.held.proofs.follow.Goals as goal
 
 pub list_new-requires : goal.list_new-requires
-list_new-requires c = (c.requires.1, c.requires.2, c.requires.3, c.requires.8.counted_nexts, c.requires.8.clear)
+list_new-requires c = (c.requires.1, c.requires.2, c.requires.3, c.requires.7.clear)
 
 pub drop_spent-requires : goal.drop_spent-requires
-drop_spent-requires c = (c.requires.2, c.requires.3, c.list_new.ensures.0, c.requires.8.counted_held)
+drop_spent-requires c = (c.requires.2, c.requires.3)
 
 pub decide-requires : goal.decide-requires
 decide-requires c =
     let at-drop-spent = c.drop_spent in
     let a = c.args in
-    let h = c.requires.8 in
+    let h = c.requires.7 in
     let new = c.list_new.ensures in
     let drop = at-drop-spent.ensures in
     let g = graph_of a.graph.now in
-    let nexts = flags_of a.nexts.now in
-    let held = flags_of a.held.now in
-    let right = listed_dropped g a.bound a.ledger.now a.used a.n nexts held _ new.1 a.place _ _ drop.2 (listed_new g a.bound a.ledger.now a.used a.n nexts held _ new.1 h.listed) in
-    let clear = clear_dropped g a.bound a.ledger.now a.used a.n nexts held _ new.1 a.place _ _ drop.2 new.1.clear in
-    let under = under_dropped g a.bound a.ledger.now a.used a.n nexts held _ new.1 a.place _ _ drop.2 (under_new g a.bound a.ledger.now a.used a.n nexts held _ new.1 h.clear h.under) in (
+    let nexts = a.nexts.now in
+    let held = a.held.now in
+    let right = listed_dropped g a.bound a.ledger.now a.used a.n nexts held _ new a.place _ _ drop (listed_new g a.bound a.ledger.now a.used a.n nexts held _ new h.listed) in
+    let clear = clear_dropped g a.bound a.ledger.now a.used a.n nexts held _ new a.place _ _ drop new.clear in
+    let under = under_dropped g a.bound a.ledger.now a.used a.n nexts held _ new a.place _ _ drop (under_new g a.bound a.ledger.now a.used a.n nexts held _ new h.clear h.under) in (
       c.requires.0,
       c.requires.2,
       c.requires.3,
       c.requires.4,
       c.requires.5,
-      c.requires.6,
-      drop.0,
-      drop.1,
       clear,
       under,
       marked_more a.tables.now a.ledger.now a.bound a.used a.n a.marks.now c.requires.1 h.marked,
-      listed_all g a.bound (flags_of a.flags.now) (flags_of at-drop-spent.new.nexts) a.ledger.now a.n c.requires.7 right,
-      standing_dropped g a.bound a.ledger.now a.used a.n nexts held _ new.1 a.place _ _ drop.2 a.marks.now (standing_more g a.ledger.now a.bound a.used a.n held a.marks.now c.requires.1 h.standing),
+      listed_all g a.bound a.flags.now at-drop-spent.new.nexts a.ledger.now a.n c.requires.6 right,
+      standing_dropped g a.bound a.ledger.now a.used a.n nexts held _ new a.place _ _ drop a.marks.now (standing_more g a.ledger.now a.bound a.used a.n held a.marks.now c.requires.1 h.standing),
     )
 
 pub shape_of-marks : goal.shape_of-marks
-shape_of-marks c = c.decide.ensures.under.1.size ∙ sym c.requires.8.marked.size
+shape_of-marks c = c.decide.ensures.under.1.size ∙ sym c.requires.7.marked.size
 
 pub returns : goal.returns
 returns c =
     let a = c.args in
-    let h = c.requires.8 in
+    let h = c.requires.7 in
     let new = c.list_new.ensures in
     let drop = c.drop_spent.ensures in
     let g = graph_of a.graph.now in
-    let nexts = flags_of a.nexts.now in
-    let held = flags_of a.held.now in
-    let right = listed_dropped g a.bound a.ledger.now a.used a.n nexts held _ new.1 a.place _ _ drop.2 (listed_new g a.bound a.ledger.now a.used a.n nexts held _ new.1 h.listed) in
-    let clear = clear_dropped g a.bound a.ledger.now a.used a.n nexts held _ new.1 a.place _ _ drop.2 new.1.clear in
+    let nexts = a.nexts.now in
+    let held = a.held.now in
+    let right = listed_dropped g a.bound a.ledger.now a.used a.n nexts held _ new a.place _ _ drop (listed_new g a.bound a.ledger.now a.used a.n nexts held _ new h.listed) in
+    let clear = clear_dropped g a.bound a.ledger.now a.used a.n nexts held _ new a.place _ _ drop new.clear in
     let d = c.decide.ensures in
-    record { carried = record { counted_nexts = drop.0; counted_held = d.held_decided.counted; clear = clear; under = d.under.0; listed = right; marked = d.under.1; standing = d.all_standing }; decided = d.held_decided }
+    record { carried = record { clear = clear; under = d.under.0; listed = right; marked = d.under.1; standing = d.all_standing }; decided = d.held_decided }

@@ -7,11 +7,10 @@ use Rattle.held.proofs.is_next.Goals as goal
 
 pub returns-then-at-graph : goal.returns-then-at-graph
 returns-then-at-graph c =
-    let w = c.wide16-at in
     let a = c.args in
-    rw w.ensures.0 (ap (λ n. eqb n 7) (sym (code_at a.graph.now a.i (omega (arith, w.ensures.0)))))
+    ap (λ n. eqb n 7) (sym (code_at a.graph.now a.i (omega arith)))
 
 pub returns-else-at-graph : goal.returns-else-at-graph
 returns-else-at-graph c =
     let a = c.args in
-    ap (λ n. eqb n 7) (sym (code_past a.graph.now a.i (omega (arith, c.wide16-at.ensures.0))))
+    ap (λ n. eqb n 7) (sym (code_past a.graph.now a.i (omega arith)))

@@ -1,4 +1,4 @@
--- `load::inputs` meets its contract. The loop's invariant: the first i inputs are in the ledger. The measure is how many are left.
+-- `load::inputs` meets its contract. The loop's invariant: the first i inputs are in the ledger.
 -- Assumes nothing.
 use Prim.Native.Nat.{ℕ, ◌+◌, ◌/◌, ◌≤◌, ◌<◌}
 use mathlib.Core.Path.{◌≡◌, sym, ap, ◌∙◌}
@@ -7,12 +7,13 @@ use mathlib.Core.List.{List, [], ◌∷◌, ◌++◌}
 use native.Mathlib.Omega.{arith}
 use native.Mathlib.Numerals.{add-one}
 use lib.ListN.{length}
+use Rattle.std.specs.Prelude.{is_some}
 use Rattle.buffer.specs.Rows.{put_row}
 use Rattle.record.specs.TokensAndTags.{tokens, token_at, encode_token, TokenFits, stands_at}
 use Rattle.record.specs.declared.tag.Tag.{Tag}
 use Rattle.record.specs.declared.token.Token.{Token}
 use Rattle.record.specs.Widths.{token_width}
-use Rattle.store_chains.specs.Search.{is_found, first_from, Free}
+use Rattle.store_chains.specs.Search.{first_from, Free}
 use Rattle.store_enabled.specs.Store.{StandingRecord}
 use Rattle.store.specs.Matching.{Matching}
 use Rattle.store.proofs.Laws.{matching_known}
@@ -51,9 +52,9 @@ module _ (tables ledger inputs links flags l : List ℕ) (i : ℕ) (w : Taken ta
         links' flags' entered
 
 -- none stands where it does
-not_taken : (i : ℕ) (m : List ℕ) (t : Token) (tag : Tag) → tag ≡ t.tag → Free (tokens i m) t.tag t.port → is_found (first_from (stands_at tag t.port) 0 (tokens i m)) ≡ true → ⊥
+not_taken : (i : ℕ) (m : List ℕ) (t : Token) (tag : Tag) → tag ≡ t.tag → Free (tokens i m) t.tag t.port → is_some (first_from (stands_at tag t.port) 0 (tokens i m)) ≡ true → ⊥
 not_taken i m t tag own none taken =
-    let z : ◌≡◌ {A = ℕ} 0 1 = ap (λ (b : Bool). cond b 1 0) (sym (ap is_found none) ∙ rw own at taken) in
+    let z : ◌≡◌ {A = ℕ} 0 1 = ap (λ (b : Bool). cond b 1 0) (sym (ap is_some none) ∙ rw own at taken) in
     absurd (omega arith)
 
 pub loop-i-init : goal.loop-i-init
@@ -120,11 +121,8 @@ enter-requires c =
     let len : length m ≡ length l.ledger = omega (arith, c.put_token.auto.ledger) in
     let fitting = proper a.tables.now a.inputs.now l.i t.result t.ensures left q.3 in
     let own : c.root-tag.result ≡ t.result.tag = c.root-tag.ensures ∙ sym fitting.root in
-    let o = rw own at (rw c.in-Free.is at c.seek.ensures) in
+    let o = rw own at (rw c.in-Some.is at c.seek.ensures) in
     (matching a.tables.now a.ledger.now a.inputs.now l.links l.flags l.ledger l.i l.invariant left q.1 t.result t.ensures m p.0 p.1 len, omega (arith, room a.tables.now a.ledger.now a.inputs.now l.links l.flags l.ledger l.i l.invariant left q.1 t.result t.ensures m p.0 p.1 len, len), omega (arith, left, q.1, q.2), standing a.tables.now a.ledger.now a.inputs.now l.links l.flags l.ledger l.i l.invariant left q.1 t.result t.ensures m p.0 p.1 len fitting, fitting.cell, o)
-
-pub overflow_add-i : goal.overflow_add-i
-overflow_add-i c = omega (arith, c.loop-i-test.true, c.requires.1, c.requires.2)
 
 pub loop-i-smaller : goal.loop-i-smaller
 loop-i-smaller c = omega (arith, c.loop-i-test.true)
@@ -148,4 +146,5 @@ pub returns : goal.returns
 returns c =
     let a = c.args in
     let l = c.loop-i in
-    taken_all a.tables.now a.ledger.now a.inputs.now l.ledger l.i l.links l.flags l.invariant (omega (arith, c.loop-i-test.false))
+    let e : l.i ≡ length a.inputs.now / token_width = omega (arith, l.invariant.size) in
+    rw e at (taken_all a.tables.now a.ledger.now a.inputs.now l.ledger l.i l.links l.flags l.invariant (omega (arith, e)))

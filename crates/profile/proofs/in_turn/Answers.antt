@@ -1,68 +1,53 @@
--- `profile::in_turn` meets its contract. The invariant is what holds after some of the activities (proofs/Stepping), the measure how many are left. Assumes nothing.
-use Prim.Native.Nat.{ℕ, ◌≤◌}
-use mathlib.Core.Path.{sym, subst}
+-- `profile::in_turn` meets its contract. The invariant is what holds after some of the activities (proofs/Stepping). Assumes nothing.
+use Prim.Native.Nat.{◌≤◌}
+use mathlib.Core.Path.{◌≡◌}
 use native.Mathlib.Omega.{arith}
-use Rattle.store.proofs.Laws.{matching_counted}
+use Rattle.store.proofs.Laws.{matching_list}
 use Rattle.profile.proofs.Places.{places_few}
-use Rattle.profile.proofs.Stepping.{Next, begun, next_here, fired_on, cut_here, all_done}
+use Rattle.profile.proofs.Stepping.{begun, next_here, fired_on, cut_here, all_done}
 use Rattle.profile.proofs.in_turn.Goals as goal
-use Rattle.profile.proofs.in_turn.Goals.{After-wide-place, Start}
-
--- the next activity, at its place
-here : (c : After-wide-place) → let l = c.loop-firings in Next c.args.tables.now l.invariant.more l.ledger l.used c.wide-place.result
-here c =
-    let l = c.loop-firings in
-    subst (λ (p : ℕ). Next c.args.tables.now l.invariant.more l.ledger l.used p) (sym c.wide-place.ensures.0) (next_here _ c.requires.0 c.requires.1 c.requires.2 l.invariant c.loop-firings-test.true)
 
 pub loop-firings-init : goal.loop-firings-init
 loop-firings-init c = begun _ c.requires.0 c.requires.1 c.requires.2
 
 pub offset_bounds-places-firings : goal.offset_bounds-places-firings
 offset_bounds-places-firings c =
-    let few : c.args.count ≤ 2048 = omega (arith, c.requires.2.counted, places_few c.args.flags.now (matching_counted c.requires.1.matching)) in
+    let few : c.args.count ≤ 2048 = omega (arith, c.requires.2.counted, places_few c.args.flags.now (matching_list c.requires.1.matching)) in
     omega (arith, few, c.loop-firings-test.true)
 
 pub bounds-places-firings : goal.bounds-places-firings
 bounds-places-firings c =
-    let few : c.args.count ≤ 2048 = omega (arith, c.requires.2.counted, places_few c.args.flags.now (matching_counted c.requires.1.matching)) in
+    let few : c.args.count ≤ 2048 = omega (arith, c.requires.2.counted, places_few c.args.flags.now (matching_list c.requires.1.matching)) in
     omega (arith, few, c.loop-firings-test.true)
 
 pub operands_at-spent-requires : goal.operands_at-spent-requires
-operands_at-spent-requires c = let n = here c in (n.standing.room, n.standing.arity)
+operands_at-spent-requires c = let n = next_here _ c.requires.0 c.requires.1 c.requires.2 c.loop-firings.invariant c.loop-firings-test.true in (n.standing.room, n.standing.arity)
 
 pub overflow_add-spent : goal.overflow_add-spent
 overflow_add-spent c =
-    let few : c.args.count ≤ 2048 = omega (arith, c.requires.2.counted, places_few c.args.flags.now (matching_counted c.requires.1.matching)) in
-    let here : let l = c.loop-firings in Next c.args.tables.now l.invariant.more l.ledger l.used c.wide-place.result = let l = c.loop-firings in
-    subst (λ (p : ℕ). Next c.args.tables.now l.invariant.more l.ledger l.used p) (sym c.wide-place.ensures.0) (next_here _ c.requires.0 c.requires.1 c.requires.2 l.invariant c.loop-firings-test.true) in
-    omega (arith, few, c.loop-firings-test.true, c.loop-firings.invariant.few, c.operands_at-spent.ensures, (here).standing.arity.1)
+    let few : c.args.count ≤ 2048 = omega (arith, c.requires.2.counted, places_few c.args.flags.now (matching_list c.requires.1.matching)) in
+    let here = next_here _ c.requires.0 c.requires.1 c.requires.2 c.loop-firings.invariant c.loop-firings-test.true in
+    omega (arith, few, c.loop-firings-test.true, c.loop-firings.invariant.few, c.operands_at-spent.ensures, here.standing.arity.1)
 
 pub fire-fired-requires : goal.fire-fired-requires
 fire-fired-requires c =
-    let here : let l = c.loop-firings in Next c.args.tables.now l.invariant.more l.ledger l.used c.wide-place.result = let l = c.loop-firings in
-    subst (λ (p : ℕ). Next c.args.tables.now l.invariant.more l.ledger l.used p) (sym c.wide-place.ensures.0) (next_here _ c.requires.0 c.requires.1 c.requires.2 l.invariant c.loop-firings-test.true) in
-    let n = here in
+    let n = next_here _ c.requires.0 c.requires.1 c.requires.2 c.loop-firings.invariant c.loop-firings-test.true in
     (c.requires.0, c.loop-firings.invariant.under.running, n.standing.below, n.standing.leading)
-
-pub overflow_add-firings : goal.overflow_add-firings
-overflow_add-firings c =
-    let few : c.args.count ≤ 2048 = omega (arith, c.requires.2.counted, places_few c.args.flags.now (matching_counted c.requires.1.matching)) in
-    omega (arith, few, c.loop-firings-test.true)
 
 pub loop-firings-smaller : goal.loop-firings-smaller
 loop-firings-smaller c = omega (arith, c.loop-firings-test.true)
 
 pub loop-firings-preserved : goal.loop-firings-preserved
 loop-firings-preserved c =
-    let here : let l = c.loop-firings in Next c.args.tables.now l.invariant.more l.ledger l.used c.wide-place.result = let l = c.loop-firings in
-    subst (λ (p : ℕ). Next c.args.tables.now l.invariant.more l.ledger l.used p) (sym c.wide-place.ensures.0) (next_here _ c.requires.0 c.requires.1 c.requires.2 l.invariant c.loop-firings-test.true) in
-    fired_on _ c.requires.0 c.requires.1 c.requires.2 c.loop-firings.invariant (here) c.operands_at-spent.ensures (rw c.in-Done.is at c.fire-fired.ensures)
+    let here = next_here _ c.requires.0 c.requires.1 c.requires.2 c.loop-firings.invariant c.loop-firings-test.true in
+    fired_on _ c.requires.0 c.requires.1 c.requires.2 c.loop-firings.invariant here c.operands_at-spent.ensures (rw c.in-Ok.is at c.fire-fired.ensures)
 
-pub returns-in-Refused : goal.returns-in-Refused
-returns-in-Refused c =
-    let here : let l = c.loop-firings in Next c.args.tables.now l.invariant.more l.ledger l.used c.wide-place.result = let l = c.loop-firings in
-    subst (λ (p : ℕ). Next c.args.tables.now l.invariant.more l.ledger l.used p) (sym c.wide-place.ensures.0) (next_here _ c.requires.0 c.requires.1 c.requires.2 l.invariant c.loop-firings-test.true) in
-    cut_here _ c.requires.0 c.requires.1 c.requires.2 c.loop-firings.invariant (here) c.requires.3 (rw c.in-Refused.is at c.fire-fired.ensures)
+pub returns-in-Err : goal.returns-in-Err
+returns-in-Err c =
+    let here = next_here _ c.requires.0 c.requires.1 c.requires.2 c.loop-firings.invariant c.loop-firings-test.true in
+    cut_here _ c.requires.0 c.requires.1 c.requires.2 c.loop-firings.invariant here c.requires.3 (rw c.in-Err.is at c.fire-fired.ensures)
 
 pub returns : goal.returns
-returns c = all_done _ c.requires.0 c.requires.1 c.requires.2 c.loop-firings.invariant c.requires.3 (λ h. omega (arith, h, c.loop-firings-test.false))
+returns c =
+    let all : c.loop-firings.firings ≡ c.args.count = omega (arith, c.loop-firings-test.false) in
+    rw all at (all_done _ c.requires.0 c.requires.1 c.requires.2 c.loop-firings.invariant c.requires.3 (λ h. omega (arith, h, all)))

@@ -1,5 +1,4 @@
--- `profile::in_turn` meets its contract. The invariant is what holds after some of the activities (proofs/Stepping), the measure how many are left. Assumes nothing.
-use Prim.Native.Nat.{◌-◌}
+-- `profile::in_turn` meets its contract. The invariant is what holds after some of the activities (proofs/Stepping). Assumes nothing.
 use Rattle.record.specs.GraphRecords.{graph_of}
 use Rattle.profile.proofs.Stepping.{Midway}
 use Rattle.profile.proofs.in_turn.Given as goal
@@ -7,7 +6,3 @@ use Rattle.profile.proofs.in_turn.Given as goal
 abbrev pub invariant-loop-firings : goal.invariant-loop-firings
 invariant-loop-firings l =
     Midway (graph_of l.graph) l.tables l.initial.ledger l.initial.cells l.start l.count l.places l.links l.flags l.ledger l.cells l.used l.firings l.spent
-
-abbrev pub decreases-loop-firings : goal.decreases-loop-firings
-decreases-loop-firings l =
-    l.count - l.firings

@@ -1,11 +1,10 @@
--- `profile::proceed` meets its contract. The invariant is what holds after some whole steps (proofs/Looping), the measure how many records are left.
--- Assumes nothing.
-use Prim.Native.Nat.{◌/◌, ◌<◌}
-use mathlib.Core.Path.{◌∙◌}
+-- `profile::proceed` meets its contract. The invariant is what holds after some whole steps (proofs/Looping). Assumes nothing.
+use Prim.Native.Nat.{◌/◌}
+use mathlib.Core.Path.{◌≡◌, ◌∙◌}
 use native.Mathlib.Omega.{arith}
 use lib.ListN.{length}
 use borrow.Author.Rules.{rules}
-use Rattle.store.proofs.Laws.{matching_counted, matching_places, matching_room}
+use Rattle.store.proofs.Laws.{matching_places, matching_room}
 use Rattle.profile.proofs.Looping.{went_joined, firings_few, begun, same_profile, advanced, halted, finished}
 use Rattle.record.specs.Widths.{step_width}
 use Rattle.profile.proofs.proceed.Goals as goal
@@ -23,13 +22,8 @@ put_record-requires c =
 
 pub overflow_add-firings : goal.overflow_add-firings
 overflow_add-firings c =
-    let w = rw c.in-Whole.is at c.step-ended.ensures.step_done in
+    let w = rw c.in-Ok.is at c.step-ended.ensures.step_done in
     omega (arith, firings_few _ c.requires.0 c.requires.1 (went_joined _ _ _ _ c.loop-records.invariant.0.went w.went))
-
-pub overflow_add-records : goal.overflow_add-records
-overflow_add-records c =
-    let more : c.loop-records.records < length c.args.profile.now / step_width = c.loop-records-test.true in
-    omega (arith, more)
 
 pub loop-records-smaller : goal.loop-records-smaller
 loop-records-smaller c = omega (arith, c.loop-records-test.true)
@@ -37,37 +31,37 @@ loop-records-smaller c = omega (arith, c.loop-records-test.true)
 pub loop-records-preserved : goal.loop-records-preserved
 loop-records-preserved c =
     let at-step = c.step-ended in
-    let w = rw c.in-Whole.is at at-step.ensures.step_done in
+    let w = rw c.in-Ok.is at at-step.ensures.step_done in
     (advanced _ _ _ c.requires.0 c.requires.1 c.loop-records.invariant.0 c.loop-records-test.true w c.put_record.ensures, at-step.ensures.places_len)
 
-pub overflow_add-firings-in-Ended : goal.overflow_add-firings-in-Ended
-overflow_add-firings-in-Ended c =
-    let w = rw c.in-Ended.is at c.step-ended.ensures.step_done in
+pub overflow_add-firings-in-Err : goal.overflow_add-firings-in-Err
+overflow_add-firings-in-Err c =
+    let w = rw c.in-Err.is at c.step-ended.ensures.step_done in
     omega (arith, firings_few _ c.requires.0 c.requires.1 (went_joined _ _ _ _ c.loop-records.invariant.0.went w.went))
 
-pub shape_of-ledger-in-Ended : goal.shape_of-ledger-in-Ended
-shape_of-ledger-in-Ended c =
-    let w = rw c.in-Ended.is at c.step-ended.ensures.step_done in
+pub shape_of-ledger-in-Err : goal.shape_of-ledger-in-Err
+shape_of-ledger-in-Err c =
+    let w = rw c.in-Err.is at c.step-ended.ensures.step_done in
     w.went.size ∙ c.loop-records.invariant.0.went.size
 
-pub shape_of-cells-in-Ended : goal.shape_of-cells-in-Ended
-shape_of-cells-in-Ended c =
-    let w = rw c.in-Ended.is at c.step-ended.ensures.step_done in
+pub shape_of-cells-in-Err : goal.shape_of-cells-in-Err
+shape_of-cells-in-Err c =
+    let w = rw c.in-Err.is at c.step-ended.ensures.step_done in
     w.went.cell_size ∙ c.loop-records.invariant.0.went.cell_size
 
-pub shape_of-profile-in-Ended : goal.shape_of-profile-in-Ended
-shape_of-profile-in-Ended c =
+pub shape_of-profile-in-Err : goal.shape_of-profile-in-Err
+shape_of-profile-in-Err c =
     same_profile _ _ _ c.requires.0 c.requires.1 c.loop-records.invariant.0 (omega arith)
 
-pub returns-in-Ended : goal.returns-in-Ended
-returns-in-Ended c =
-    let w = rw c.in-Ended.is at c.step-ended.ensures.step_done in
+pub returns-in-Err : goal.returns-in-Err
+returns-in-Err c =
+    let w = rw c.in-Err.is at c.step-ended.ensures.step_done in
     rw c.answered.ensures (halted _ _ _ c.requires.0 c.requires.1 c.loop-records.invariant.0 c.loop-records-test.true w)
 
 pub no_record-outcome-requires : goal.no_record-outcome-requires
 no_record-outcome-requires c =
     let m = c.loop-records.invariant.0.went.running.matching in
-    (matching_counted m, matching_places m, matching_room m)
+    (matching_places m, matching_room m)
 
 pub shape_of-ledger : goal.shape_of-ledger
 shape_of-ledger c = c.loop-records.invariant.0.went.size
@@ -81,4 +75,5 @@ shape_of-profile c =
 
 pub returns : goal.returns
 returns c =
-    rw c.answered-2.ensures (finished _ _ _ c.requires.0 c.requires.1 c.loop-records.invariant.0 c.loop-records-test.false _ c.no_record-outcome.ensures)
+    let all : c.loop-records.records ≡ length c.args.profile.now / step_width = omega (arith, c.loop-records-test.false) in
+    rw c.answered-2.ensures (rw all at (finished _ _ _ c.requires.0 c.requires.1 c.loop-records.invariant.0 c.loop-records-test.false _ c.no_record-outcome.ensures))

@@ -1,6 +1,4 @@
--- `profile::proceed` meets its contract. The invariant is what holds after some whole steps (proofs/Looping), the measure how many records are left.
--- Assumes nothing.
-use Prim.Native.Nat.{◌-◌}
+-- `profile::proceed` meets its contract. The invariant is what holds after some whole steps (proofs/Looping). Assumes nothing.
 use mathlib.Core.Path.{◌≡◌}
 use lib.ListN.{length}
 use Rattle.record.specs.GraphRecords.{graph_of}
@@ -11,7 +9,3 @@ abbrev pub invariant-loop-records : goal.invariant-loop-records
 invariant-loop-records l =
     SoFar (graph_of l.graph) l.initial.ledger l.initial.cells l.initial.profile l.start l.room l.tables l.links l.flags l.ledger l.cells l.profile l.used l.unspent l.firings l.records
     × (length l.places ≡ 2048)
-
-abbrev pub decreases-loop-records : goal.decreases-loop-records
-decreases-loop-records l =
-    l.room - l.records

@@ -25,12 +25,12 @@ enum_told-1 c = search rules
 
 pub accepted-requires : goal.accepted-requires
 unfolding profiled profile_unless_failed profile_answer profile_after answer ledger_after cells_after
-accepted-requires c = sym c.check-checked.ensures ∙ c.in-Passed.is
+accepted-requires c = sym c.check-checked.ensures ∙ c.in-Ok.is
 
-pub returns-in-Failed : goal.returns-in-Failed
+pub returns-in-Err : goal.returns-in-Err
 unfolding profiled profile_unless_failed profile_answer profile_after answer ledger_after cells_after
-returns-in-Failed c =
-    let e = sym c.check-checked.ensures ∙ c.in-Failed.is in
+returns-in-Err c =
+    let e = sym c.check-checked.ensures ∙ c.in-Err.is in
     let r = c.answered.ensures in
     rw e (record { answered = r; numbers = ap (λ (p : Profiled). values_of p.answer) r; ledger_left = refl; cells_left = refl; profile_left = refl })
 
@@ -46,9 +46,9 @@ pub shape_of-profile : goal.shape_of-profile
 unfolding profiled profile_unless_failed profile_answer profile_after answer ledger_after cells_after
 shape_of-profile c = search rules
 
-pub returns-in-Passed : goal.returns-in-Passed
+pub returns-in-Ok : goal.returns-in-Ok
 unfolding profiled profile_unless_failed profile_answer profile_after answer ledger_after cells_after
-returns-in-Passed c =
-    let e = sym c.check-checked.ensures ∙ c.in-Passed.is in
+returns-in-Ok c =
+    let e = sym c.check-checked.ensures ∙ c.in-Ok.is in
     let l = c.accepted.ensures in
     rw e (record { answered = λ i. record { answer = l.ended.answered i; records = l.counted i }; numbers = ap values_of l.ended.answered; ledger_left = l.ended.ledger_left; cells_left = l.ended.cells_left; profile_left = l.profile_left })

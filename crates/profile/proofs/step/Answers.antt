@@ -7,7 +7,7 @@ use borrow.Enum.Refused.{opened}
 use denote.Enum.Declared as Declared
 use types.Run.{OneOf}
 use Rattle.record.specs.declared.instruction.Instruction.{Instruction}
-use Rattle.store.proofs.Laws.{matching_counted, matching_room, matching_few}
+use Rattle.store.proofs.Laws.{matching_room, matching_few}
 use Rattle.rules.specs.declared.answer.Outcome.{Outcome}
 use Rattle.rules.specs.declared.answer.Outcome.TheVariants as Outcomes
 use Rattle.rules.specs.contracts.answer.Outcome as Outcomes-laws
@@ -29,7 +29,7 @@ all_of Outcomes.Spent h a = a
 all_of (Outcomes.Refused r p) h a = absurd (no_other h)
 
 pub enabled_places-count-requires : goal.enabled_places-count-requires
-enabled_places-count-requires c = (matching_counted c.requires.1.matching, c.requires.3)
+enabled_places-count-requires c = c.requires.3
 
 pub ending-requires : goal.ending-requires
 ending-requires c = matching_room c.requires.1.matching
@@ -57,7 +57,7 @@ overflow_sub-result-in_default c =
     let a = all_of at-in-turn.result.outcome (opened c.in_default.in_default-own.keys2) at-in-turn.ensures in omega (arith, a.unspent_left, c.requires.2)
 
 pub returns-in-Refused : goal.returns-in-Refused
-returns-in-Refused c = record { step_done = rw c.in-Refused.is at c.in_turn-done.ensures; places_len = c.enabled_places-count.ensures.size }
+returns-in-Refused c = record { step_done = rw c.in-Refused.is (rw c.in-Refused.is at c.in_turn-done.ensures); places_len = c.enabled_places-count.ensures.size }
 
 pub returns-in_default : goal.returns-in_default
 returns-in_default c = let at-in-turn = c.in_turn-done in record { step_done = step_whole (all_of at-in-turn.result.outcome (opened c.in_default.in_default-own.keys2) at-in-turn.ensures) c.requires.2; places_len = c.enabled_places-count.ensures.size }

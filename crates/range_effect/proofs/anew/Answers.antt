@@ -8,10 +8,10 @@ use Rattle.buffer.proofs.Tables.{length_rows}
 use Rattle.range_table.specs.Table.{pair_width, pair_in}
 use Rattle.range_effect.proofs.anew.Goals as goal
 
-pub returns-in-OutOfRange : goal.returns-in-OutOfRange
-returns-in-OutOfRange c = rw c.in-OutOfRange.is (record { operated = refl; held = sym (append-nil _); size = refl })
+pub returns-in-None : goal.returns-in-None
+returns-in-None c = rw c.in-None.is (record { operated = refl; held = sym (append-nil _); size = refl })
 
-pub returns-in-Between : goal.returns-in-Between
-returns-in-Between c =
-    rw c.in-Between.is
+pub returns-in-Some : goal.returns-in-Some
+returns-in-Some c =
+    rw c.in-Some.is
     (record { operated = rw (length_rows pair_width pair_in c.args.count c.args.table.now, to_z_pos w32 {n = c.args.count} (omega arith)); held = c.add.ensures.held; size = c.add.ensures.size })

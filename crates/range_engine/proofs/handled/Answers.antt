@@ -22,22 +22,22 @@ unfolding ranges_unless_failed range_answer range_ledger_after range_cells_after
 accepted-requires c =
     let a = c.args in
     let w = c.narrow.ensures in
-    let passed = sym c.check-checked.ensures ∙ c.in-Passed.is in
+    let passed = sym c.check-checked.ensures ∙ c.in-Ok.is in
     (rw (only_handles _ _ _ _ _ c.requires.2 w) (accepted_handles a.graph.now a.arrays.now a.inputs.now (length a.ledger.now) (length a.cells.now) c.requires.0 passed), c.requires.1, omega (arith, w.size, c.requires.3))
 
-pub returns-in-Failed : goal.returns-in-Failed
+pub returns-in-Err : goal.returns-in-Err
 unfolding ranges_unless_failed range_answer range_ledger_after range_cells_after
-returns-in-Failed c =
-    let e = sym c.check-checked.ensures ∙ c.in-Failed.is in
+returns-in-Err c =
+    let e = sym c.check-checked.ensures ∙ c.in-Err.is in
     let a = c.refused.ensures in
     rw e (record { answered = a; numbers = ap values_of a; ledger_left = refl; cells_left = refl })
 
-pub returns-in-Passed : goal.returns-in-Passed
+pub returns-in-Ok : goal.returns-in-Ok
 unfolding ranges_unless_failed range_answer range_ledger_after range_cells_after
-returns-in-Passed c =
+returns-in-Ok c =
     let a = c.args in
     let w = c.narrow.ensures in
-    let e = sym c.check-checked.ensures ∙ c.in-Passed.is in
+    let e = sym c.check-checked.ensures ∙ c.in-Ok.is in
     let n = length a.cells.now / range_cell_width in
     let stands = inputs_stand a.graph.now a.arrays.now a.inputs.now (length a.ledger.now) (length a.cells.now) c.requires.0 e _ w.ranges n in
     let l = c.accepted.ensures (first_ranges a.inputs.now n) (rw (only_handles _ _ _ _ _ c.requires.2 w) stands) in

@@ -6,7 +6,7 @@ use Rattle.range_engine.proofs.Writing.{told_first}
 use Rattle.range_engine.proofs.over_handles.Goals as goal
 
 pub begin-used-requires : goal.begin-used-requires
-begin-used-requires c = (c.requires.0, refl, refl)
+begin-used-requires c = (c.requires.0, refl, c.new-flags.ensures)
 
 pub overflow_add-used : goal.overflow_add-used
 overflow_add-used c = omega (arith, matching_few c.begin-used.ensures.running.matching)

@@ -11,19 +11,19 @@ pub with_inputs-requires : goal.with_inputs-requires
 unfolding range_answer range_ledger_after range_cells_after
 with_inputs-requires c =
     let a = c.args in
-    (lent_passed a.graph.now a.arrays.now (length a.inputs.now) (length a.picks.now) a.bound (length a.ledger.now) (length a.cells.now) (sym c.check_lent-checked.ensures ∙ c.in-Passed.is), omega arith)
+    (lent_passed a.graph.now a.arrays.now (length a.inputs.now) (length a.picks.now) a.bound (length a.ledger.now) (length a.cells.now) (sym c.check_lent-checked.ensures ∙ c.in-Ok.is), omega arith)
 
-pub returns-in-Failed : goal.returns-in-Failed
+pub returns-in-Err : goal.returns-in-Err
 unfolding range_answer range_ledger_after range_cells_after
-returns-in-Failed c =
+returns-in-Err c =
     let a = c.args in
-    let e = sym c.check_lent-checked.ensures ∙ c.in-Failed.is in
+    let e = sym c.check_lent-checked.ensures ∙ c.in-Err.is in
     let r = c.refused.ensures in
     rw (result_failed a.graph.now a.arrays.now a.inputs.now a.picks.now a.budget a.bound (length a.ledger.now) (length a.cells.now) e) (record { answered = r; numbers = ap values_of r; ledger_left = refl; cells_left = refl })
 
-pub returns-in-Passed : goal.returns-in-Passed
+pub returns-in-Ok : goal.returns-in-Ok
 unfolding range_answer range_ledger_after range_cells_after
-returns-in-Passed c =
+returns-in-Ok c =
     let a = c.args in
-    let e = sym c.check_lent-checked.ensures ∙ c.in-Passed.is in
+    let e = sym c.check_lent-checked.ensures ∙ c.in-Ok.is in
     rw (result_passed a.graph.now a.arrays.now a.inputs.now a.picks.now a.budget a.bound (length a.ledger.now) (length a.cells.now) e) c.with_inputs.ensures

@@ -63,10 +63,6 @@ unfolding first_table handles_of handles_from
 add-requires-in-loop-i c =
     omega (arith, c.loop-i.invariant.4, c.add.ensures.size, c.requires.pairs)
 
-pub overflow_add-i-in-loop-i-2 : goal.overflow_add-i-in-loop-i-2
-unfolding first_table handles_of handles_from
-overflow_add-i-in-loop-i-2 c = record { fits = omega (arith, c.requires.few) }
-
 pub loop-i-smaller : goal.loop-i-smaller
 unfolding first_table handles_of handles_from
 loop-i-smaller c = omega arith

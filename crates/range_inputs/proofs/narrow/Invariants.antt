@@ -1,5 +1,5 @@
 -- `range_inputs::narrow` meets its contract. The invariant: the first i inputs stand as handles, and their ranges in the table. Assumes nothing.
-use Prim.Native.Nat.{◌+◌, ◌*◌, ◌≤◌, ◌-◌, ◌/◌}
+use Prim.Native.Nat.{◌+◌, ◌*◌, ◌≤◌, ◌/◌}
 use mathlib.Core.List.{◌∷◌, ◌++◌}
 use mathlib.Core.Path.{◌≡◌}
 use lib.IntN.{pos}
@@ -19,6 +19,3 @@ invariant-loop-i l =
     × (length l.handles ≡ length l.initial.handles)
     × (table_of (l.i + 1) l.table ≡ single (pos 0) ∷ rows range_token_width range_in l.i l.inputs)
     × (length l.table ≡ length l.initial.table)
-
-abbrev pub decreases-loop-i : goal.decreases-loop-i
-decreases-loop-i l = length l.inputs / range_token_width - l.i

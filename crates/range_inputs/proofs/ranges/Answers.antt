@@ -25,8 +25,8 @@ returns-then-not-is_proper c =
     let s = c.args.inputs.now in
     let x = c.range_in.result in
     let e = get_d_rows range_token_width range_in (length s / range_token_width) l.i s x (omega arith) ∙ sym (c.range_in.ensures ∙ ap range_in c.row_at.ensures) in
-    sym (l.invariant.1 ∙ turn (λ k r. demand (is_proper_range r) Undecided k) (all_rows range_token_width range_in s) l.i x (omega (arith, length_rows range_token_width range_in (length s / range_token_width) s)) e
-    (ap (λ (b : Bool). demand b Undecided l.i) (sym c.is_proper.ensures ∙ c.if-not-is_proper.true)))
+    rw c.at.ensures (sym (l.invariant.1 ∙ turn (λ k r. demand (is_proper_range r) Undecided k) (all_rows range_token_width range_in s) l.i x (omega (arith, length_rows range_token_width range_in (length s / range_token_width) s)) e
+    (ap (λ (b : Bool). demand b Undecided l.i) (sym c.is_proper.ensures ∙ c.if-not-is_proper.true))))
 
 pub loop-i-preserved : goal.loop-i-preserved
 loop-i-preserved c =

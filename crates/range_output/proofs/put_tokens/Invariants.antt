@@ -1,5 +1,4 @@
 -- `range_output::put_tokens` meets its contract. The invariant: the first i records are written. Assumes nothing.
-use Prim.Native.Nat.{◌-◌}
 use Rattle.record.specs.TokensAndTags as Records
 use Rattle.record.specs.Widths.{token_width, range_token_width}
 use Rattle.rules.specs.RangeRun.{encode_range}
@@ -10,6 +9,3 @@ use Rattle.range_output.proofs.put_tokens.Given as goal
 
 abbrev pub invariant-loop-i : goal.invariant-loop-i
 invariant-loop-i l = Passed token_width Records.decode_token (token_meant (table_of l.count l.table)) range_token_width encode_range length_token l.used l.ledger l.initial.out l.out l.i
-
-abbrev pub decreases-loop-i : goal.decreases-loop-i
-decreases-loop-i l = l.used - l.i

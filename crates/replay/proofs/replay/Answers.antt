@@ -7,18 +7,18 @@ use Rattle.replay.proofs.replay.Goals as goal
 
 pub accepted-requires : goal.accepted-requires
 unfolding replayed unless_failed answer ledger_after cells_after
-accepted-requires c = sym c.check-checked.ensures ∙ c.in-Passed.is
+accepted-requires c = sym c.check-checked.ensures ∙ c.in-Ok.is
 
-pub returns-in-Failed : goal.returns-in-Failed
+pub returns-in-Err : goal.returns-in-Err
 unfolding replayed unless_failed answer ledger_after cells_after
-returns-in-Failed c =
-    let e = sym c.check-checked.ensures ∙ c.in-Failed.is in
+returns-in-Err c =
+    let e = sym c.check-checked.ensures ∙ c.in-Err.is in
     let a = c.refused.ensures in
     rw e (record { answered = a; numbers = ap values_of a; ledger_left = refl; cells_left = refl })
 
-pub returns-in-Passed : goal.returns-in-Passed
+pub returns-in-Ok : goal.returns-in-Ok
 unfolding replayed unless_failed answer ledger_after cells_after
-returns-in-Passed c =
-    let e = sym c.check-checked.ensures ∙ c.in-Passed.is in
+returns-in-Ok c =
+    let e = sym c.check-checked.ensures ∙ c.in-Ok.is in
     let l = c.accepted.ensures in
     rw e (record { answered = l.answered; numbers = ap values_of l.answered; ledger_left = l.ledger_left; cells_left = l.cells_left })

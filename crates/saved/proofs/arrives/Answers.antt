@@ -1,6 +1,6 @@
 -- `saved::arrives` meets its contract. Assumes nothing.
 use Prim.Native.Nat.{◌*◌}
-use mathlib.Core.Bool.{true}
+use mathlib.Core.Bool.{true, not, not-not}
 use mathlib.Core.Path.{◌≡◌, sym, ap, ◌∙◌}
 use native.Mathlib.Omega.{arith}
 use lib.ListN.{take, drop, length-drop}
@@ -75,6 +75,6 @@ returns c =
         c.if-not-content_allowed.false,
         ← c.find.ensures.0,
       )
-          c.is_nothing.ensures;
+          (sym (not-not c.is_none.result) ∙ ap not (sym c.is_none.ensures));
       i_value = (λ h. bytes yes);
     }

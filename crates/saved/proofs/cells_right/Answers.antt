@@ -33,9 +33,6 @@ returns-then-not-cell_right c =
       cell_bytes = (λ h. false_true h);
     }
 
-pub overflow_add-c : goal.overflow_add-c
-overflow_add-c c = omega (arith, c.loop-c-test.true)
-
 pub loop-c-smaller : goal.loop-c-smaller
 loop-c-smaller c = omega (arith, c.loop-c-test.true)
 

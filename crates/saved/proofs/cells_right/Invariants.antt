@@ -1,5 +1,5 @@
 -- `saved::cells_right` meets its contract. The invariant: the first c cells are right. Assumes nothing.
-use Prim.Native.Nat.{ℕ, ◌/◌, ◌≤◌, ◌<◌, ◌-◌}
+use Prim.Native.Nat.{ℕ, ◌/◌, ◌≤◌, ◌<◌}
 use mathlib.Core.Bool.{true}
 use mathlib.Core.List.{List}
 use mathlib.Core.Path.{◌≡◌}
@@ -16,6 +16,3 @@ invariant-loop-c l =
     (l.c ≤ length l.cells / cell_width)
     × ((tables flags ledger : List ℕ) (used : ℕ) → Matching tables l.links flags ledger used → all_up_to (cell_right (tokens used ledger) l.cells) l.c ≡ true)
     × ((d : ℕ) → d < l.c → CellBytes l.cells d)
-
-abbrev pub decreases-loop-c : goal.decreases-loop-c
-decreases-loop-c l = length l.cells / cell_width - l.c

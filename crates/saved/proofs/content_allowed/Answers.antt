@@ -8,8 +8,8 @@ returns-in-Live c = rw c.in-Live.is
 
 pub returns-in-Spent : goal.returns-in-Spent
 unfolding content_allowed
-returns-in-Spent c = rw (c.in-Spent.is, c.wide16.ensures, c.arity.ensures)
+returns-in-Spent c = rw (c.in-Spent.is, c.arity.ensures)
 
 pub returns-in-Deferred : goal.returns-in-Deferred
 unfolding content_allowed
-returns-in-Deferred c = rw (c.in-Deferred.is, c.wide32.ensures)
+returns-in-Deferred c = rw c.in-Deferred.is

@@ -1,8 +1,10 @@
 -- `saved::enter` meets its contract. The invariant: the first i tokens can arrive and have arrived, and are counted. Assumes nothing.
+use borrow.Author.Tests.{eq-eqb, ne_eqb}
 use Prim.Native.Nat.{ℕ, ◌*◌, ◌≤◌}
 use mathlib.Core.Bool.{Bool, true, cond}
 use mathlib.Core.List.{List}
 use lib.ListN.{take, drop}
+use Rattle.std.specs.Prelude.{is_some}
 use Rattle.record.specs.declared.instruction.Instruction.{Instruction}
 use Rattle.record.specs.Widths.{token_width}
 use Rattle.abstraction.specs.Tables.{Arities}
@@ -12,7 +14,6 @@ use Rattle.record.specs.GraphRecords.{graph_of}
 use Rattle.record.specs.declared.token.Token.{Token}
 use Rattle.record.specs.TokensAndTags.{encode_token, token_at, TokenFits}
 use Rattle.machine.proofs.View.{false_true}
-use Rattle.store_chains.specs.Search.{is_found}
 use Rattle.store_enabled.specs.Store.{StandingRecord}
 use Rattle.store.proofs.Laws.{matching_known}
 use Rattle.store.proofs.Writing.{put_same}
@@ -87,7 +88,7 @@ unfolding enters_all
 returns-in_default c =
     let p = arrives_parts (graph_of c.args.graph.now) c.args.tables.now c.args.ledger.now c.args.count c.loop-i.i c.requires.3 (sym c.arrives.ensures.value ∙ c.if-not-arrives.false) in
     let taken = rw (c.in_default.is, c.token_at-t.ensures) at c.seek.ensures in
-    absurd (false_true (sym (ap is_found p.2) ∙ taken))
+    absurd (false_true (sym (ap is_some p.2) ∙ taken))
 
 pub enter-requires : goal.enter-requires
 unfolding enters_all
@@ -96,11 +97,7 @@ enter-requires c =
     let a = c.args in
     let h = c.loop-i-test.true in
     let p = arrives_parts (graph_of a.graph.now) a.tables.now a.ledger.now a.count l.i c.requires.3 (sym c.arrives.ensures.value ∙ c.if-not-arrives.false) in
-    (l.invariant.1, omega (arith, h, c.requires.1), omega (arith, h, c.requires.1, c.requires.2), (stands (graph_of c.args.graph.now) c.args.tables.now c.args.ledger.now c.args.count c.loop-i.i c.token_at-t.result c.requires.3 c.requires.5 (sym c.arrives.ensures.value ∙ c.if-not-arrives.false) (c.arrives.ensures.i_value c.if-not-arrives.false) c.token_at-t.ensures), rw c.token_at-t.ensures p.1, rw c.in-Free.is at c.seek.ensures)
-
-pub overflow_add-i : goal.overflow_add-i
-unfolding enters_all
-overflow_add-i c = omega (arith, c.loop-i-test.true, c.requires.1, c.requires.2)
+    (l.invariant.1, omega (arith, h, c.requires.1), omega (arith, h, c.requires.1, c.requires.2), (stands (graph_of c.args.graph.now) c.args.tables.now c.args.ledger.now c.args.count c.loop-i.i c.token_at-t.result c.requires.3 c.requires.5 (sym c.arrives.ensures.value ∙ c.if-not-arrives.false) (c.arrives.ensures.i_value c.if-not-arrives.false) c.token_at-t.ensures), rw c.token_at-t.ensures p.1, rw c.in-Some.is at c.seek.ensures)
 
 pub loop-i-smaller : goal.loop-i-smaller
 unfolding enters_all
@@ -127,24 +124,24 @@ overflow_mul-closed c =
     let l = c.loop-i in
     omega (arith, l.invariant.5.few, l.invariant.0, c.requires.1, c.requires.2)
 
-pub returns-then-same : goal.returns-then-same
+pub returns-then-closed-of_two : goal.returns-then-closed-of_two
 unfolding enters_all
-returns-then-same c =
+returns-then-closed-of_two c =
     let l = c.loop-i in
     let a = c.args in
     let m = a.ledger.now in
     let e : l.i ≡ a.used = omega (arith, c.loop-i-test.false, l.invariant.0) in
     let both = told (enters_all (graph_of a.graph.now) a.tables.now m a.count a.firings a.used) (λ h. rw e at l.invariant.1)
-    (rw (← e, l.invariant.2, ← l.invariant.5.number, ← l.invariant.4.number, ← l.invariant.3.number, ← c.same.ensures, c.if-same.true) c.same-then-same.ensures) in
+    (rw (← e, l.invariant.2, ← l.invariant.5.number, ← l.invariant.4.number, ← l.invariant.3.number, eq-eqb _ _ c.if-closed-of_two.true)) in
     record { value = both.0; cases = both.1 }
 
-pub returns-else-same : goal.returns-else-same
+pub returns-else-closed-of_two : goal.returns-else-closed-of_two
 unfolding enters_all
-returns-else-same c =
+returns-else-closed-of_two c =
     let l = c.loop-i in
     let a = c.args in
     let m = a.ledger.now in
     let e : l.i ≡ a.used = omega (arith, c.loop-i-test.false, l.invariant.0) in
     let both = told (enters_all (graph_of a.graph.now) a.tables.now m a.count a.firings a.used) (λ h. rw e at l.invariant.1)
-    (rw (← e, l.invariant.2, ← l.invariant.5.number, ← l.invariant.4.number, ← c.same.ensures, c.if-same.false)) in
+    (rw (← e, l.invariant.2, ← l.invariant.5.number, ← l.invariant.4.number, ne_eqb _ _ c.if-closed-of_two.false)) in
     record { value = both.0; cases = both.1 }

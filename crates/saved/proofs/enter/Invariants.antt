@@ -1,5 +1,5 @@
 -- `saved::enter` meets its contract. The invariant: the first i tokens can arrive and have arrived, and are counted. Assumes nothing.
-use Prim.Native.Nat.{◌≤◌, ◌-◌}
+use Prim.Native.Nat.{◌≤◌}
 use mathlib.Core.Bool.{true}
 use mathlib.Core.Path.{◌≡◌}
 use Rattle.record.specs.GraphRecords.{graph_of}
@@ -13,6 +13,3 @@ abbrev pub invariant-loop-i : goal.invariant-loop-i
 invariant-loop-i l =
     (l.i ≤ l.used) × Matching l.tables l.links l.flags l.ledger l.i × (all_up_to (arrives_at (graph_of l.graph) l.tables l.ledger l.count) l.i ≡ true)
     × Counts (first_spent l.ledger) l.i l.fired × Counts (spent_of_two l.tables l.ledger) l.i l.of_two × Counts (closes_at l.tables l.ledger) l.i l.closed
-
-abbrev pub decreases-loop-i : goal.decreases-loop-i
-decreases-loop-i l = l.used - l.i

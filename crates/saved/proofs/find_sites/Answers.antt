@@ -18,9 +18,6 @@ loop-i-init c = (omega arith, refl, no_sites)
 pub instruction_at-requires : goal.instruction_at-requires
 instruction_at-requires c = omega (arith, c.loop-i-test.true)
 
-pub overflow_add-i : goal.overflow_add-i
-overflow_add-i c = omega (arith, c.loop-i-test.true)
-
 pub loop-i-smaller : goal.loop-i-smaller
 loop-i-smaller c = omega (arith, c.loop-i-test.true)
 

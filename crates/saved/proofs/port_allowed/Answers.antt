@@ -12,4 +12,4 @@ returns-then-operands-eq0 c = rw c.operands_at.ensures
 pub returns : goal.returns
 returns c =
     let x = c.args in
-    rw (c.wide16.ensures, operands_of_lem (graph_of x.graph.now) x.tables.now c.requires x.t.tag (rw c.arity-operands.ensures at c.if-operands-eq0.false), c.arity-operands.ensures)
+    rw (operands_of_lem (graph_of x.graph.now) x.tables.now c.requires x.t.tag (rw c.arity-operands.ensures at c.if-operands-eq0.false), c.arity-operands.ensures)

@@ -3,11 +3,11 @@ use Prim.Native.Nat.{◌<◌}
 use mathlib.Core.Path.{refl}
 use native.Mathlib.Omega.{arith}
 use Rattle.store_chains.proofs.pair.Goals as goal
-use Rattle.store_chains.proofs.pair.Goals.{In-At}
+use Rattle.store_chains.proofs.pair.Goals.{In-Some}
 
 -- a partner stands before
-low : (c : In-At) → let n = c.args.used in (c.in-At.i < n) × (n < 2048)
-low c = (rw c.in-At.is at c.requires.1, c.requires.0)
+low : (c : In-Some) → let n = c.args.used in (c.in-Some.i < n) × (n < 2048)
+low c = (rw c.in-Some.is at c.requires.1, c.requires.0)
 
 pub overflow_add-links : goal.overflow_add-links
 overflow_add-links c = omega (arith, (low c).0, (low c).1)
@@ -15,8 +15,8 @@ overflow_add-links c = omega (arith, (low c).0, (low c).1)
 pub overflow_cast-links : goal.overflow_cast-links
 overflow_cast-links c = omega (arith, (low c).0, (low c).1)
 
-pub overflow_add-links-in-At : goal.overflow_add-links-in-At
-overflow_add-links-in-At c = omega (arith, (low c).0, (low c).1)
+pub overflow_add-links-in-Some : goal.overflow_add-links-in-Some
+overflow_add-links-in-Some c = omega (arith, (low c).0, (low c).1)
 
 pub offset_bounds-links-used : goal.offset_bounds-links-used
 offset_bounds-links-used c = omega (arith, (low c).0, (low c).1)
@@ -24,14 +24,14 @@ offset_bounds-links-used c = omega (arith, (low c).0, (low c).1)
 pub bounds-links-used : goal.bounds-links-used
 bounds-links-used c = omega (arith, (low c.before).0, (low c.before).1)
 
-pub overflow_add-links-in-At-2 : goal.overflow_add-links-in-At-2
-overflow_add-links-in-At-2 c = omega (arith, (low c.before).0, (low c.before).1)
+pub overflow_add-links-in-Some-2 : goal.overflow_add-links-in-Some-2
+overflow_add-links-in-Some-2 c = omega (arith, (low c.before).0, (low c.before).1)
 
-pub overflow_cast-links-in-At : goal.overflow_cast-links-in-At
-overflow_cast-links-in-At c = omega (arith, (low c.before).0, (low c.before).1)
+pub overflow_cast-links-in-Some : goal.overflow_cast-links-in-Some
+overflow_cast-links-in-Some c = omega (arith, (low c.before).0, (low c.before).1)
 
-pub overflow_add-links-in-At-3 : goal.overflow_add-links-in-At-3
-overflow_add-links-in-At-3 c = omega (arith, (low c.before).0, (low c.before).1)
+pub overflow_add-links-in-Some-3 : goal.overflow_add-links-in-Some-3
+overflow_add-links-in-Some-3 c = omega (arith, (low c.before).0, (low c.before).1)
 
 pub offset_bounds-links-i : goal.offset_bounds-links-i
 offset_bounds-links-i c = omega (arith, (low c.before).0, (low c.before).1)
@@ -39,8 +39,8 @@ offset_bounds-links-i c = omega (arith, (low c.before).0, (low c.before).1)
 pub bounds-links-i : goal.bounds-links-i
 bounds-links-i c = omega (arith, (low c.before).0, (low c.before).1)
 
-pub returns-in-At : goal.returns-in-At
-returns-in-At c = rw c.in-At.is refl
+pub returns-in-Some : goal.returns-in-Some
+returns-in-Some c = rw c.in-Some.is refl
 
-pub returns-in-Nothing : goal.returns-in-Nothing
-returns-in-Nothing c = rw c.in-Nothing.is refl
+pub returns-in-None : goal.returns-in-None
+returns-in-None c = rw c.in-None.is refl

@@ -16,7 +16,6 @@ use Rattle.store_chains.specs.Chains.{Indexed}
 use Rattle.record.specs.declared.token.Token.{Token}
 use Rattle.buffer.proofs.Tables.{length_rows}
 use Rattle.record.specs.Widths.{token_width}
-use Rattle.store_flags.specs.Flags.{flags_of}
 use Rattle.store_chains.specs.Partners.{Partnered, Beside}
 use Rattle.store_flags.specs.Marks.{bit}
 use Rattle.store_enabled.specs.Enabled.{is_live_record, arity_of, is_enabled, earliest_of}
@@ -52,21 +51,21 @@ module _ (tables links flags l written after : List ℕ) (used : ℕ) (t : Token
     there = added_there tables links flags l used t stored room few low free.free fits written put same after indexed partners
 
     -- the flags are right where its port is not waited for
-    past : arity_of tables t.tag ≤ t.port → flags_of flags ≡ set (flags_of flags) (earliest_of us t.tag) (bit (is_enabled tables us t.tag))
-    past h = right_past tables (tokens used l) t (flags_of flags) stored.right h low
+    past : arity_of tables t.tag ≤ t.port → flags ≡ set flags (earliest_of us t.tag) (bit (is_enabled tables us t.tag))
+    past h = right_past tables (tokens used l) t flags stored.right h low
 
     -- and where its activity is not ready
-    waits : is_enabled tables us t.tag ≡ false → flags_of flags ≡ set (flags_of flags) (earliest_of us t.tag) (bit (is_enabled tables us t.tag))
-    waits = right_wait tables (tokens used l) t (flags_of flags) stored.right
+    waits : is_enabled tables us t.tag ≡ false → flags ≡ set flags (earliest_of us t.tag) (bit (is_enabled tables us t.tag))
+    waits = right_wait tables (tokens used l) t flags stored.right
 
     -- as they are where the token is not live
-    idle : is_live_record t.content ≡ false → flags_of flags ≡ set (flags_of flags) (earliest_of us t.tag) (bit (is_enabled tables us t.tag))
+    idle : is_live_record t.content ≡ false → flags ≡ set flags (earliest_of us t.tag) (bit (is_enabled tables us t.tag))
     idle off = go (dec_le (suc t.port) (arity_of tables t.tag))
       where
         k : ℕ
         k = arity_of tables t.tag
 
-        go : Dec (suc t.port ≤ k) → flags_of flags ≡ set (flags_of flags) (earliest_of us t.tag) (bit (is_enabled tables us t.tag))
+        go : Dec (suc t.port ≤ k) → flags ≡ set flags (earliest_of us t.tag) (bit (is_enabled tables us t.tag))
         go (yes h) = waits (rw (← entered.more) (last_waits last k (λ e. omega arith) (ap (λ (x : Token). is_live_record x.content) there ∙ off)))
         go (no z) = past (omega arith)
 
@@ -83,7 +82,7 @@ settle_arrived-requires c =
     let e = entered a.tables.now a.links.now a.flags.now a.ledger.now p.new.ledger n.new.links a.used a.t a.slot q.0 q.1 q.2 q.3 q.5 p.ensures.0 p.ensures.1 same n.ensures.indexed n.ensures.partnered in
     let here = there a.tables.now a.links.now a.flags.now a.ledger.now p.new.ledger n.new.links a.used a.t a.slot q.0 q.1 q.2 q.3 q.5 p.ensures.0 p.ensures.1 same n.ensures.indexed n.ensures.partnered in
     let live = ap (λ (x : Token). is_live_record x.content) here ∙ ap is_live_record c.in-Live.is in
-    (q.0.counted, last a.tables.now a.links.now a.flags.now a.ledger.now p.new.ledger n.new.links a.used a.t a.slot q.0 q.1 q.2 q.3 q.5 p.ensures.0 p.ensures.1 same n.ensures.indexed n.ensures.partnered, live, λ h. rw e.more (flag_before a.tables.now a.ledger.now a.used a.t (flags_of a.flags.now) q.0.right q.5.free q.3 (rw c.entry_of-entry.ensures at h)))
+    (last a.tables.now a.links.now a.flags.now a.ledger.now p.new.ledger n.new.links a.used a.t a.slot q.0 q.1 q.2 q.3 q.5 p.ensures.0 p.ensures.1 same n.ensures.indexed n.ensures.partnered, live, λ h. rw e.more (flag_before a.tables.now a.ledger.now a.used a.t a.flags.now q.0.right q.5.free q.3 (rw c.entry_of-entry.ensures at h)))
 
 pub returns-in-Live : goal.returns-in-Live
 returns-in-Live c =
@@ -96,13 +95,13 @@ returns-in-Live c =
     let ts = tokens a.used a.ledger.now in
     let vs = ts ++ a.t ∷ [] in
     let k = arity_of a.tables.now a.t.tag in
-    let once = raised_operand (ltb a.t.port k) (is_enabled a.tables.now vs a.t.tag) (flags_of a.flags.now) (earliest_of vs a.t.tag)
+    let once = raised_operand (ltb a.t.port k) (is_enabled a.tables.now vs a.t.tag) a.flags.now (earliest_of vs a.t.tag)
     (λ h. past a.tables.now a.links.now a.flags.now a.ledger.now p.new.ledger n.new.links a.used a.t a.slot q.0 q.1 q.2 q.3 q.5 p.ensures.0 p.ensures.1 same n.ensures.indexed n.ensures.partnered (ltb-false a.t.port k h)) (waits a.tables.now a.links.now a.flags.now a.ledger.now p.new.ledger n.new.links a.used a.t a.slot q.0 q.1 q.2 q.3 q.5 p.ensures.0 p.ensures.1 same n.ensures.indexed n.ensures.partnered) in
     let flags = c.settle_arrived.ensures.flags_after ∙ rw (c.entry_of-entry.ensures, e.more) once in
     record {
       ledger_after = p.ensures.0;
       ledger_after_2 = e.more;
-      stored = e.stored c.settle_arrived.new.flags flags c.settle_arrived.ensures.counted;
+      stored = e.stored c.settle_arrived.new.flags flags;
       waiting = (λ w. rw e.more (n.ensures.waiting ts (length_rows token_width decode_token a.used a.ledger.now) w));
     }
 
@@ -119,6 +118,6 @@ returns-in_default c =
     record {
       ledger_after = p.ensures.0;
       ledger_after_2 = e.more;
-      stored = e.stored a.flags.now (rw e.more (idle a.tables.now a.links.now a.flags.now a.ledger.now p.new.ledger n.new.links a.used a.t a.slot q.0 q.1 q.2 q.3 q.5 p.ensures.0 p.ensures.1 same n.ensures.indexed n.ensures.partnered off)) q.0.counted;
+      stored = e.stored a.flags.now (rw e.more (idle a.tables.now a.links.now a.flags.now a.ledger.now p.new.ledger n.new.links a.used a.t a.slot q.0 q.1 q.2 q.3 q.5 p.ensures.0 p.ensures.1 same n.ensures.indexed n.ensures.partnered off));
       waiting = (λ w. rw e.more (n.ensures.waiting ts (length_rows token_width decode_token a.used a.ledger.now) w));
     }

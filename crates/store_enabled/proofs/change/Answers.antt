@@ -7,7 +7,6 @@ use Rattle.record.specs.TokensAndTags.{tokens, token_at, decode_token}
 use Rattle.record.specs.declared.token.Token.{Token}
 use Rattle.buffer.proofs.Tables.{length_rows, get_d_rows}
 use Rattle.record.specs.Widths.{token_width}
-use Rattle.store_flags.specs.Flags.{flags_of}
 use Rattle.store_enabled.specs.Enabled.{is_enabled, earliest_of}
 use Rattle.store_enabled.proofs.Store.{Moved, changed, all_at}
 use Rattle.store_enabled.proofs.Arriving.{right_still, raised_only}
@@ -27,7 +26,7 @@ settle_changed-requires c =
     let e : Moved a.tables.now a.links.now a.flags.now p.new.ledger a.used a.i (set (tokens a.used l) a.i a.t) a.t =
     changed a.tables.now a.links.now a.flags.now l a.used a.i a.t c.requires.0 c.requires.1 c.requires.2 c.requires.3 p.ensures.1 p.new.ledger p.ensures.0 same in
     let low : a.t.port < 2 = rw (c.requires.3, ← before) (all_at (λ (t : Token). t.port < 2) (tokens a.used l) a.i (token_at l a.i) (omega (arith, size, c.requires.1)) c.requires.0.known.ports) in
-    (c.requires.0.counted, e.known, c.requires.1, low, e.own)
+    (e.known, c.requires.1, low, e.own)
 
 pub returns : goal.returns
 returns c =
@@ -41,7 +40,7 @@ returns c =
     changed a.tables.now a.links.now a.flags.now l a.used a.i a.t c.requires.0 c.requires.1 c.requires.2 c.requires.3 p.ensures.1 p.new.ledger p.ensures.0 same in
     let ts = tokens a.used l in
     let us = set ts a.i a.t in
-    let still = right_still a.tables.now ts a.i a.t (token_at l a.i) (flags_of a.flags.now) (omega (arith, size, c.requires.1)) (rw before c.requires.2) (rw before c.requires.3) (rw before c.requires.4) c.requires.0.right in
-    let once = raised_only (is_enabled a.tables.now us a.t.tag) (flags_of a.flags.now) (earliest_of us a.t.tag) still in
+    let still = right_still a.tables.now ts a.i a.t (token_at l a.i) a.flags.now (omega (arith, size, c.requires.1)) (rw before c.requires.2) (rw before c.requires.3) (rw before c.requires.4) c.requires.0.right in
+    let once = raised_only (is_enabled a.tables.now us a.t.tag) a.flags.now (earliest_of us a.t.tag) still in
     let flags = c.settle_changed.ensures.flags_after ∙ rw (c.arity-operands.ensures, e.more) once in
-    record { ledger_after = p.ensures.0; ledger_after_2 = e.more; stored = e.stored c.settle_changed.new.flags flags c.settle_changed.ensures.counted }
+    record { ledger_after = p.ensures.0; ledger_after_2 = e.more; stored = e.stored c.settle_changed.new.flags flags }

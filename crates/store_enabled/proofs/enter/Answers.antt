@@ -7,7 +7,6 @@ use Rattle.record.specs.TokensAndTags.{tokens, token_at, decode_token}
 use Rattle.record.specs.declared.token.Token.{Token}
 use Rattle.buffer.proofs.Tables.{length_rows}
 use Rattle.record.specs.Widths.{token_width}
-use Rattle.store_flags.specs.Flags.{flags_of}
 use Rattle.store_chains.specs.declared.Slot.{Slot}
 use Rattle.store_chains.specs.Slots.{Open}
 use Rattle.store_chains.specs.Chains.{Indexed}
@@ -38,8 +37,8 @@ module _ (tables links flags l after : List ℕ) (used : ℕ) (t : Token) (slot 
     -- its tag is not enabled, and the flags stay
     stays : is_enabled tables (tokens (used + 1) l) t.tag ≡ false → Stored tables after flags l (used + 1)
     stays off =
-        let still = right_wait tables (tokens used l) t (flags_of flags) stored.right (rw entered.more at off) in
-        entered.stored flags (rw entered.more still) stored.counted
+        let still = right_wait tables (tokens used l) t flags stored.right (rw entered.more at off) in
+        entered.stored flags (rw entered.more still)
 
     -- it is the last
     last : Last l used t.tag t.port slot.partner
@@ -68,8 +67,8 @@ raise-requires c =
     let e = entered a.tables.now a.links.now a.flags.now a.ledger.now n.new.links a.used a.t a.slot q.0 q.1 q.2 q.3 q.5 n.ensures.indexed n.ensures.partnered in
     let on = sym whole ∙ c.if-completes.true in
     let below = port_below k a.t.port (tokens (a.used + 1) a.ledger.now) a.t.tag q.3.low q.3.alone on in
-    let down = flag_before a.tables.now a.ledger.now a.used a.t (flags_of a.flags.now) q.0.right q.5.free q.3.low below in
-    (rw c.place_or.ensures (last_flag end), q.0.counted, rw (c.place_or.ensures, ← last_place end, e.more) down)
+    let down = flag_before a.tables.now a.ledger.now a.used a.t a.flags.now q.0.right q.5.free q.3.low below in
+    (rw c.unwrap_or.ensures (last_flag end), rw (c.unwrap_or.ensures, ← last_place end, e.more) down)
 
 pub returns-then-completes : goal.returns-then-completes
 returns-then-completes c =
@@ -86,7 +85,7 @@ returns-then-completes c =
     let ts = tokens a.used a.ledger.now in
     record {
       ledger_value = e.more;
-      stored = e.stored c.raise.new.flags (c.raise.ensures.flags_after ∙ rw (c.place_or.ensures, last_place end, on)) c.raise.ensures.counted;
+      stored = e.stored c.raise.new.self (c.raise.ensures.flags_after ∙ rw (c.unwrap_or.ensures, last_place end, on));
       waiting = (λ w. rw e.more (n.ensures.waiting ts (length_rows token_width decode_token a.used a.ledger.now) w));
     }
 

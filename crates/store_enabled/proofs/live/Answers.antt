@@ -9,18 +9,18 @@ use Rattle.store_enabled.proofs.live.Goals as goal
 
 pub overflow_mul-result : goal.overflow_mul-result
 overflow_mul-result c =
-    let within : c.in-At.i < length c.args.ledger.now / token_width = rw c.in-At.is at c.requires in
+    let within : c.in-Some.i < length c.args.ledger.now / token_width = rw c.in-Some.is at c.requires in
     omega arith
 
 pub overflow_add-result : goal.overflow_add-result
 overflow_add-result c =
-    let within : c.in-At.i < length c.args.ledger.now / token_width = rw c.in-At.is at c.requires in
+    let within : c.in-Some.i < length c.args.ledger.now / token_width = rw c.in-Some.is at c.requires in
     omega arith
 
 pub bounds-ledger-i : goal.bounds-ledger-i
 bounds-ledger-i c =
-    let within : c.in-At.i < length c.args.ledger.now / token_width = rw c.in-At.is at c.requires in
+    let within : c.in-Some.i < length c.args.ledger.now / token_width = rw c.in-Some.is at c.requires in
     omega arith
 
-pub returns-in-At : goal.returns-in-At
-returns-in-At c = rw c.in-At.is (sym (live_state c.args.ledger.now c.in-At.i))
+pub returns-in-Some : goal.returns-in-Some
+returns-in-Some c = rw c.in-Some.is (sym (live_state c.args.ledger.now c.in-Some.i))

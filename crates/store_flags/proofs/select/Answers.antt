@@ -1,31 +1,42 @@
 -- `store_flags::select` meets its contract. Assumes nothing.
-use Prim.Native.Nat.{ℕ, ◌<◌}
+use Prim.Native.Nat.{ℕ, ◌+◌, ◌*◌, ◌<◌}
 use mathlib.Core.Path.{◌≡◌, sym, ap, ◌∙◌}
-use mathlib.Core.List.{List}
 use native.Mathlib.Omega.{arith}
-use lib.ListN.{length, get_or}
-use Rattle.store_flags.specs.Flags.{ones, place, places, flags_of, Counted}
-use Rattle.store_flags.proofs.Laws.{place_lt, ones_places, place_places}
-use Rattle.store_flags.proofs.Words.{words_size}
+use lib.ListN.{drop}
+use Rattle.store_flags.specs.Flags.{ones, place}
+use Rattle.store_flags.proofs.Laws.{block_passed, none_left, places_le}
+use Rattle.store_flags.proofs.Minus.{among, selected}
 use Rattle.store_flags.proofs.select.Goals as goal
 
-module _ {ws : List ℕ} (c : Counted ws) (k : ℕ) (h : k < length (places (flags_of ws))) where
-  among : k < ones (flags_of ws)
-  among = omega (arith, ones_places 0 (flags_of ws) c.tallied.binary)
+pub loop-g-init : goal.loop-g-init
+loop-g-init g c =
+    record { left = omega (arith, places_le 0 (g.S.FlagWords.flags c.args.set.now), c.requires); place = omega arith; list = λ h. absurd (omega arith) }
 
-  selected : (r : ℕ) → r ≡ place k (flags_of ws) → (r ≡ get_or (places (flags_of ws)) k 0) × (r < 2048)
-  selected r e =
-      let p = place_places 0 k (flags_of ws) c.tallied.binary among in
-      (omega arith, omega (arith, place_lt k (flags_of ws) among, words_size c.summed))
+pub select_block-requires : goal.select_block-requires
+select_block-requires g c =
+    let l = c.loop-g in
+    let e : l.g * 8 * 64 ≡ l.g * 512 = omega arith in
+    (omega (arith, c.loop-g-test.true), rw e l.invariant.left)
 
-pub first-requires : goal.first-requires
-first-requires c = (c.requires.0.summed, omega (arith, among c.requires.0 c.args.k c.requires.1))
+pub returns-then-left-n : goal.returns-then-left-n
+returns-then-left-n g c =
+    let l = c.loop-g in
+    let f = g.S.FlagWords.flags c.args.set.now in
+    let m : l.g * 8 * 64 ≡ l.g * 512 = omega arith in
+    let list = c.ones_in_group-n.ensures.list in
+    selected list c.args.k (among list c.args.k c.requires) c.select_block.result
+    (c.select_block.ensures ∙ ap (λ (q : ℕ). q + place l.left (drop q f)) m ∙ sym l.invariant.place)
 
-pub select_group-requires : goal.select_group-requires
-select_group-requires c = (c.requires.0, among c.requires.0 c.args.k c.requires.1)
+pub loop-g-preserved : goal.loop-g-preserved
+loop-g-preserved g c =
+    let l = c.loop-g in
+    let n = c.ones_in_group-n in
+    let f = g.S.FlagWords.flags c.args.set.now in
+    let p = block_passed 512 f l.g l.left n.result (omega (arith, n.ensures.list.size, c.loop-g-test.true)) n.ensures.value c.if-left-n.false l.invariant.left in
+    record { left = p.0; place = l.invariant.place ∙ p.1; list = λ h. n.ensures.list }
 
-pub returns-then-k-eq0 : goal.returns-then-k-eq0
-returns-then-k-eq0 c = selected c.requires.0 c.args.k c.requires.1 c.first.result (c.first.ensures ∙ ap (λ (m : ℕ). place m (flags_of c.args.flags.now)) (sym c.if-k-eq0.true))
-
-pub returns-else-k-eq0 : goal.returns-else-k-eq0
-returns-else-k-eq0 c = selected c.requires.0 c.args.k c.requires.1 c.select_group.result c.select_group.ensures
+pub returns : goal.returns
+returns g c =
+    let l = c.loop-g in
+    let list = l.invariant.list (omega (arith, c.loop-g-test.false)) in
+    absurd (none_left (g.S.FlagWords.flags c.args.set.now) (l.g * 512) l.left (omega (arith, list.size, c.loop-g-test.false)) l.invariant.left)

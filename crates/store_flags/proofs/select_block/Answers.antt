@@ -1,48 +1,48 @@
--- `store_flags::select_block` meets its contract. The loop's invariant: the one sought is number `left` of those from word `b` on. The measure is
--- the number of words left. Assumes nothing.
+-- `store_flags::select_block` meets its contract. Assumes nothing.
 use Prim.Native.Nat.{ℕ, ◌+◌, ◌*◌, ◌<◌}
-use mathlib.Core.Path.{refl, sym, ap, ◌∙◌}
+use mathlib.Core.Path.{◌≡◌, refl, sym, ap, ◌∙◌}
+use mathlib.Core.List.{List}
 use native.Mathlib.Omega.{arith}
-use lib.ListN.{get_or}
-use Rattle.store_flags.specs.Flags.{ones, in_word, flags_of}
-use Rattle.store_flags.proofs.Laws.{block_passed, none_left, place_lt}
+use lib.ListN.{drop, take, take-append-drop}
+use Rattle.store_flags.specs.Flags.{ones, place, in_word}
+use Rattle.store_flags.proofs.Laws.{block_passed, none_left, place_lt, place_left}
 use Rattle.store_flags.proofs.Digits.{word_size}
-use Rattle.store_flags.proofs.Words.{words_size, words_place, word_count, block_count}
 use Rattle.store_flags.proofs.select_block.Goals as goal
-use Rattle.store_flags.proofs.select_block.Goals.{After-select_in}
 
--- the one sought is among those of the word
-on : (c : After-select_in) → let l = c.loop-b in l.left < ones (in_word (get_or c.args.flags.now l.b 0))
-on c =
-    let l = c.loop-b in
-    omega (arith, word_count c.requires.0 l.b (omega arith), c.if-left-n.true)
+-- a one among those of a part that a word holds
+in_part : (k : ℕ) (l : List ℕ) (w : ℕ) → in_word w ≡ take 64 l → k < ones (take 64 l) → place k l ≡ place k (in_word w)
+in_part k l w e h = ap (place k) (sym (take-append-drop 64 l)) ∙ place_left k (take 64 l) (drop 64 l) h ∙ ap (place k) (sym e)
 
 pub loop-b-init : goal.loop-b-init
-loop-b-init c = (c.requires.1, refl)
+loop-b-init g c = record { left = c.requires.1; place = refl; list = λ h. absurd (omega arith) }
 
 pub select_in-requires : goal.select_in-requires
-select_in-requires c = (word_count c.requires.0 c.loop-b.b (omega arith), c.if-left-n.true)
+select_in-requires g c = (c.ones_in_word-n.ensures.value ∙ ap ones (sym c.word.ensures.value), c.if-left-n.true)
 
 pub overflow_add-result : goal.overflow_add-result
-overflow_add-result c =
+overflow_add-result g c =
+    let n = c.ones_in_word-n in
     let l = c.loop-b in
-    let w = get_or c.args.flags.now l.b 0 in
-    record { fits = omega (arith, c.select_in.ensures, word_size w, place_lt l.left (in_word w) (on c)) }
+    let w = c.word.result in
+    record { fits = omega (arith, c.select_in.ensures, word_size w, n.ensures.value, ap ones c.word.ensures.value, place_lt l.left (in_word w) (omega (arith, n.ensures.value, ap ones c.word.ensures.value, c.if-left-n.true)), c.loop-b-test.true) }
 
 pub returns-then-left-n : goal.returns-then-left-n
-returns-then-left-n c =
+returns-then-left-n g c =
     let l = c.loop-b in
-    ap (λ (x : ℕ). l.b * 64 + x) (c.select_in.ensures ∙ sym (words_place c.requires.0.summed l.b l.left (omega arith) (on c))) ∙ sym l.invariant.1
+    let f = g.S.FlagWords.flags c.args.set.now in
+    let among : l.left < ones (take 64 (drop (l.b * 64) f)) = omega (arith, c.ones_in_word-n.ensures.value, c.if-left-n.true) in
+    ap (λ (x : ℕ). l.b * 64 + x) (c.select_in.ensures ∙ sym (in_part l.left (drop (l.b * 64) f) c.word.result c.word.ensures.value among)) ∙ sym l.invariant.place
 
 pub loop-b-preserved : goal.loop-b-preserved
-loop-b-preserved c =
+loop-b-preserved g c =
     let l = c.loop-b in
-    let f = flags_of c.args.flags.now in
-    let n = block_count c.requires.0 l.b (omega arith) in
-    let p = block_passed 64 f l.b l.left (get_or c.args.flags.now (33 + l.b) 0) (omega (arith, words_size c.requires.0.summed)) n c.if-left-n.false l.invariant.0 in
-    (p.0, l.invariant.1 ∙ p.1)
+    let n = c.ones_in_word-n in
+    let f = g.S.FlagWords.flags c.args.set.now in
+    let p = block_passed 64 f l.b l.left n.result (omega (arith, n.ensures.list.size, c.loop-b-test.true)) n.ensures.value c.if-left-n.false l.invariant.left in
+    record { left = p.0; place = l.invariant.place ∙ p.1; list = λ h. n.ensures.list }
 
 pub returns : goal.returns
-returns c =
+returns g c =
     let l = c.loop-b in
-    absurd (none_left (flags_of c.args.flags.now) (l.b * 64) l.left (omega (arith, words_size c.requires.0.summed)) l.invariant.0)
+    let list = l.invariant.list (omega (arith, c.requires.0, c.loop-b-test.false)) in
+    absurd (none_left (g.S.FlagWords.flags c.args.set.now) (l.b * 64) l.left (omega (arith, list.size, c.loop-b-test.false)) l.invariant.left)

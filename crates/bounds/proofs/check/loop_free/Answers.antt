@@ -19,7 +19,7 @@ returns-then-not-is_loop_free c =
     let s = c.args.graph.now in
     let x = c.instruction_at-r.result in
     let e = in_graph s l.i (omega arith) x ∙ sym c.instruction_at-r.ensures in
-    sym (l.invariant.1 ∙ turn free (graph_of s) l.i x (omega (arith, length_graph s)) e (ap (λ (b : Bool). demand b NotLoopFree l.i) (sym c.is_loop_free.ensures ∙ c.if-not-is_loop_free.true)))
+    rw c.at.ensures (sym (l.invariant.1 ∙ turn free (graph_of s) l.i x (omega (arith, length_graph s)) e (ap (λ (b : Bool). demand b NotLoopFree l.i) (sym c.is_loop_free.ensures ∙ c.if-not-is_loop_free.true))))
 
 pub loop-i-preserved : goal.loop-i-preserved
 loop-i-preserved c =

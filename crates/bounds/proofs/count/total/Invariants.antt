@@ -1,5 +1,5 @@
 -- `bounds::count::total` meets its contract. The invariant: the sums over the first i instructions. Assumes nothing.
-use Prim.Native.Nat.{◌≤◌, ◌-◌, ◌/◌, ◌*◌}
+use Prim.Native.Nat.{◌≤◌, ◌/◌, ◌*◌}
 use mathlib.Core.Path.{◌≡◌}
 use lib.ListN.{length}
 use Rattle.record.specs.GraphRecords.{graph_of}
@@ -11,6 +11,3 @@ use Rattle.bounds.proofs.count.total.Given as goal
 abbrev pub invariant-loop-i : goal.invariant-loop-i
 invariant-loop-i l =
     (l.i ≤ length l.graph / graph_width) × (l.firings ≡ sum_over l.i (graph_of l.graph) l.reached firings_needed) × (l.outputs ≡ sum_over l.i (graph_of l.graph) l.reached outputs_needed) × (l.firings ≤ l.i) × (l.outputs ≤ l.i * 2)
-
-abbrev pub decreases-loop-i : goal.decreases-loop-i
-decreases-loop-i l = length l.graph / graph_width - l.i

@@ -1,4 +1,5 @@
 -- `bounds::reach::add` meets its contract: a round that came to instruction i comes to the next. Assumes nothing.
+use Rattle.std.proofs.Common.{Ok}
 use Prim.Native.Nat.{ℕ, ◌/◌, ◌≤◌, ◌<◌}
 use native.Mathlib.Omega.{arith}
 use mathlib.Core.Path.{◌≡◌, refl, sym, ◌∙◌}
@@ -9,7 +10,6 @@ use borrow.Author.Tests.{leb-true}
 use Rattle.record.specs.GraphRecords.{graph_of}
 use Rattle.record.specs.Widths.{graph_width}
 use Rattle.machine.proofs.View.{false_true}
-use Rattle.rules.specs.declared.answer.Checked.TheVariants.{Passed}
 use Rattle.rules.specs.Check.{operands_at, check_graph}
 use Rattle.rules.proofs.Lists.{or_right}
 use Rattle.check_fields.proofs.Graphs.{length_graph, at_graph}
@@ -18,7 +18,7 @@ use Rattle.bounds.proofs.Ports.{destinations_inside}
 use Rattle.bounds.proofs.Rounds.{is_ready, leave, take_in}
 use Rattle.bounds.proofs.reach.add.Goals as goal
 
-module _ (graph : List ℕ) (i : ℕ) (passed : check_graph graph ≡ Passed) (h : i < length graph / graph_width) where
+module _ (graph : List ℕ) (i : ℕ) (passed : check_graph graph ≡ Ok tt) (h : i < length graph / graph_width) where
   within : i < length (graph_of graph)
   within = omega (arith, length_graph graph)
 

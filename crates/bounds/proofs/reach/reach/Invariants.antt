@@ -1,5 +1,5 @@
 -- `bounds::reach::reach` meets its contract. The invariant: the table has at least what the rounds of the definition have reached. Assumes nothing.
-use Prim.Native.Nat.{◌-◌, ◌/◌, ◌≤◌}
+use Prim.Native.Nat.{◌/◌, ◌≤◌}
 use mathlib.Core.List.{List}
 use lib.ListN.{length}
 use Rattle.record.specs.declared.token.Token.{Token}
@@ -9,9 +9,6 @@ use Rattle.rules.proofs.Rounds.{Within, after}
 use Rattle.bounds.specs.Reach.{Ports, sent_by_inputs, flag, ReachedSoFar}
 use Rattle.bounds.proofs.reach.reach.Given as goal
 
-abbrev pub invariant-loop-rounds : goal.invariant-loop-rounds
-invariant-loop-rounds l =
-    ((ts : List Token) → Ports (sent_by_inputs ts) l.initial.sent → ReachedSoFar ts (graph_of l.graph) l.sent l.reached × Within (after ts (graph_of l.graph) l.rounds) (flag l.reached)) × (l.rounds ≤ length l.graph / graph_width)
-
-abbrev pub decreases-loop-rounds : goal.decreases-loop-rounds
-decreases-loop-rounds l = length l.graph / graph_width - l.rounds
+abbrev pub invariant-loop : goal.invariant-loop
+invariant-loop l =
+    ((ts : List Token) → Ports (sent_by_inputs ts) l.initial.sent → ReachedSoFar ts (graph_of l.graph) l.sent l.reached × Within (after ts (graph_of l.graph) l.counter) (flag l.reached)) × (l.counter ≤ length l.graph / graph_width)

@@ -1,5 +1,5 @@
 -- `bounds::reach::round` meets its contract. The invariant: the round came to instruction i. Assumes nothing.
-use Prim.Native.Nat.{◌-◌, ◌/◌, ◌≤◌}
+use Prim.Native.Nat.{◌/◌, ◌≤◌}
 use mathlib.Core.List.{List}
 use lib.ListN.{length}
 use Rattle.record.specs.declared.token.Token.{Token}
@@ -11,6 +11,3 @@ use Rattle.bounds.proofs.reach.round.Given as goal
 abbrev pub invariant-loop-i : goal.invariant-loop-i
 invariant-loop-i l =
     (l.i ≤ length l.graph / graph_width) × ((ts : List Token) → ReachedSoFar ts (graph_of l.graph) l.initial.sent l.initial.reached → Round ts (graph_of l.graph) l.i l.initial.reached l.sent l.reached l.added)
-
-abbrev pub decreases-loop-i : goal.decreases-loop-i
-decreases-loop-i l = length l.graph / graph_width - l.i

@@ -16,10 +16,6 @@ pub small-site-requires : goal.small-site-requires
 unfolding at_site
 small-site-requires c = search rules
 
-pub wide-requires : goal.wide-requires
-unfolding at_site
-wide-requires c = search rules
-
 pub overflow_add-sites : goal.overflow_add-sites
 unfolding at_site
 overflow_add-sites c = search rules
@@ -37,7 +33,7 @@ unfolding at_site
 returns-then-site-lt256 c =
     let fits : SFits w32 c.args.r.constant = record { sfits = c.struct_told-1.given.1.1.1.1.0.1 } in
     let e = rw (to_z-of_z fits) at c.small-site.ensures in
-    rw (eq-eqb _ _ c.if-r-ne8.false, ← e, lt-ltb _ _ c.if-site-lt256.true, c.wide.ensures, add-one)
+    rw (eq-eqb _ _ c.if-r-ne8.false, ← e, lt-ltb _ _ c.if-site-lt256.true, add-one)
 
 pub returns-else-site-lt256 : goal.returns-else-site-lt256
 unfolding at_site

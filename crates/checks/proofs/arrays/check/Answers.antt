@@ -38,4 +38,4 @@ returns-then-good c =
 
 pub returns-else-good : goal.returns-else-good
 unfolding check_arrays
-returns-else-good c = rw (← c.good.ensures, c.if-good.false)
+returns-else-good c = rw (c.at.ensures, ← c.good.ensures, c.if-good.false)

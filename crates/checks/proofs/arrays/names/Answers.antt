@@ -27,7 +27,7 @@ returns-then-not-names_good c =
     let h : l.i < length g / graph_width = omega arith in
     let e = in_graph g l.i h r ∙ sym c.instruction_at.ensures in
     let good = sym c.names_good.ensures ∙ c.if-not-names_good.true in
-    sym (l.invariant.1 ∙ turn (λ k r. demand (names_good a.n r) BadArray k) (graph_of g) l.i r (omega (arith, length_graph g)) e (ap (λ (b : Bool). demand b BadArray l.i) good))
+    rw c.at.ensures (sym (l.invariant.1 ∙ turn (λ k r. demand (names_good a.n r) BadArray k) (graph_of g) l.i r (omega (arith, length_graph g)) e (ap (λ (b : Bool). demand b BadArray l.i) good)))
 
 pub loop-i-preserved : goal.loop-i-preserved
 loop-i-preserved c =

@@ -17,4 +17,4 @@ returns-then-good_length c = rw (← c.good_length.ensures, c.if-good_length.tru
 
 pub returns-else-good_length : goal.returns-else-good_length
 unfolding check_graph
-returns-else-good_length c = rw (← c.good_length.ensures, c.if-good_length.false)
+returns-else-good_length c = rw (c.at.ensures, ← c.good_length.ensures, c.if-good_length.false)

@@ -6,7 +6,7 @@ use lib.ListN.{length, take}
 use Rattle.record.specs.GraphRecords.{graph_of}
 use Rattle.record.specs.Widths.{graph_width}
 use Rattle.rules.specs.Check.{check_record}
-use Rattle.check_fields.proofs.Turns.{stopped, take_next, turn, turn_end}
+use Rattle.check_fields.proofs.Turns.{handed_on, take_next, turn, turn_end}
 use Rattle.checks.proofs.Passed.{passed_record}
 use Rattle.check_fields.proofs.Graphs.{length_graph, in_graph}
 use Rattle.check_fields.proofs.Sites.{no_sites, note_sites, length_at_site}
@@ -15,19 +15,19 @@ use Rattle.checks.proofs.graph.records.Goals as goal
 pub loop-i-init : goal.loop-i-init
 loop-i-init c = (omega arith, refl, no_sites, refl)
 
-pub record-checked-requires : goal.record-checked-requires
-record-checked-requires c = (c.counts-counts.ensures, c.loop-i.invariant.2)
+pub record-requires : goal.record-requires
+record-requires c = (c.counts-counts.ensures, c.loop-i.invariant.2)
 
-pub returns-in_default : goal.returns-in_default
-returns-in_default c =
+pub returns-in_err-record : goal.returns-in_err-record
+returns-in_err-record c =
     let at-instruction-at = c.instruction_at-r in
     let l = c.loop-i in
     let g = c.args.graph.now in
     let r = at-instruction-at.result in
     let h : l.i < length g / graph_width = omega arith in
     let e = in_graph g l.i h r ∙ sym at-instruction-at.ensures in
-    let t = l.invariant.1 ∙ turn (check_record (graph_of g)) (graph_of g) l.i r (omega (arith, length_graph g)) e (sym c.record-checked.ensures) in
-    stopped _ _ _ _ c.in_default.is ∙ sym t
+    let t = l.invariant.1 ∙ turn (check_record (graph_of g)) (graph_of g) l.i r (omega (arith, length_graph g)) e (sym c.record.ensures) in
+    handed_on c.from_residual.ensures ∙ sym (rw c.in_err-record.was at t)
 
 pub loop-i-preserved : goal.loop-i-preserved
 loop-i-preserved c =
@@ -37,9 +37,9 @@ loop-i-preserved c =
     let r = at-instruction-at.result in
     let h : l.i < length g / graph_width = omega arith in
     let e = in_graph g l.i h r ∙ sym at-instruction-at.ensures in
-    let t = l.invariant.1 ∙ turn (check_record (graph_of g)) (graph_of g) l.i r (omega (arith, length_graph g)) e (sym c.record-checked.ensures) in
-    let p = c.in-Passed.is in
-    let good = passed_record (graph_of g) l.i r (sym c.record-checked.ensures ∙ p) in
+    let t = l.invariant.1 ∙ turn (check_record (graph_of g)) (graph_of g) l.i r (omega (arith, length_graph g)) e (sym c.record.ensures) in
+    let p = c.in_ok-record.was in
+    let good = passed_record (graph_of g) l.i r (sym c.record.ensures ∙ p) in
     let n = note_sites (take l.i (graph_of g)) l.sites l.invariant.2 r l.invariant.3 good.site in (
       omega arith,
       t ∙ rw p,

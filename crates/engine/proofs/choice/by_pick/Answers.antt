@@ -5,14 +5,10 @@ use native.Mathlib.Omega.{arith}
 use native.Mathlib.Nat.{mod-lt}
 use borrow.Author.Rules.{rules}
 use lib.ListN.{length}
-use Rattle.store.proofs.Laws.{matching_counted, matching_places, matching_room}
+use Rattle.store.proofs.Laws.{matching_places, matching_room}
 use Rattle.rules.specs.Run.{picks_of}
 use Rattle.engine.proofs.Choosing.{pick_none, pick_number, pick_there}
 use Rattle.engine.proofs.choice.by_pick.Goals as goal
-
-pub enabled_count-e-requires : goal.enabled_count-e-requires
-unfolding picks_of
-enabled_count-e-requires c = matching_counted c.requires.matching
 
 pub ending-requires : goal.ending-requires
 unfolding picks_of
@@ -37,7 +33,7 @@ pub enabled_at-requires : goal.enabled_at-requires
 unfolding picks_of
 enabled_at-requires c =
     let low : c.number_of-number.result < c.enabled_count-e.result = rw c.number_of-number.ensures (mod-lt c.pick_at.result (omega (arith, c.if-e-eq0.false))) in
-    (matching_counted c.requires.matching, subst (λ (k : ℕ). c.number_of-number.result < k) c.enabled_count-e.ensures low)
+    subst (λ (k : ℕ). c.number_of-number.result < k) c.enabled_count-e.ensures low
 
 pub returns : goal.returns
 unfolding picks_of

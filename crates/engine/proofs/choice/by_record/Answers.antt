@@ -15,10 +15,10 @@ pub returns-in_default-place_named : goal.returns-in_default-place_named
 returns-in_default-place_named c =
     λ flags held g right arrived back table capacity count cs.
     names_none c.args.tables.now c.args.ledger.now c.args.used g right arrived table capacity count cs (names_in c.args.log.now) c.args.firings _
-    (sym (ap tag_named c.in-Activity.is) ∙ c.name_at.ensures) _ c.place_named.ensures.0 c.in_default-place_named.is
+    (sym (ap tag_named c.in-Some.is) ∙ c.name_at.ensures) _ c.place_named.ensures.0 c.in_default-place_named.is
 
 pub returns : goal.returns
 returns c =
     λ flags held g right arrived back table capacity count cs.
     names_there c.args.tables.now c.args.ledger.now c.args.used g right arrived table capacity count cs (names_in c.args.log.now) c.args.firings _
-    (sym (ap tag_named c.in-Activity.is) ∙ c.name_at.ensures) _ c.place_named.ensures.0 _ c.in-At.is (rw c.in-At.is at c.place_named.ensures.1)
+    (sym (ap tag_named c.in-Some.is) ∙ c.name_at.ensures) _ c.place_named.ensures.0 _ c.in-Some-place_named.is (rw c.in-Some-place_named.is at c.place_named.ensures.1)

@@ -13,8 +13,7 @@ by_record-requires c = c.requires.0
 
 pub by_free-requires : goal.by_free-requires
 by_free-requires c =
-    let beside = rw c.in-Free.is at c.requires.1 in
-    (record { links = c.args.links.now; matching = c.requires.0 }, beside.0, beside.1)
+    (record { links = c.args.links.now; matching = c.requires.0 }, rw (c.unwrap.ensures) at (rw c.in-Free.is at c.requires.1))
 
 pub returns-in-Oldest : goal.returns-in-Oldest
 returns-in-Oldest c = rw c.in-Oldest.is (c.oldest.ensures [] [])
@@ -26,4 +25,4 @@ pub returns-in-Log : goal.returns-in-Log
 returns-in-Log c = rw c.in-Log.is (c.by_record.ensures [] [])
 
 pub returns-in-Free : goal.returns-in-Free
-returns-in-Free c = rw c.in-Free.is (c.by_free.ensures c.in-Free.field-0)
+returns-in-Free c = rw (c.in-Free.is, c.unwrap.ensures) (c.by_free.ensures c.in-Free.field-0)

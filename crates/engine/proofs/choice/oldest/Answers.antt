@@ -5,26 +5,23 @@ use native.Mathlib.Omega.{arith}
 use native.Mathlib.Nat.{mod-eq_of_lt}
 use borrow.Author.Tests.{eqb-true, eqb-false}
 use lib.ListN.{length}
-use Rattle.store_flags.specs.Flags.{places, flags_of}
-use Rattle.store.proofs.Laws.{matching_counted, matching_places, matching_room}
+use Rattle.store_flags.specs.Flags.{places}
+use Rattle.store.proofs.Laws.{matching_places, matching_room}
 use Rattle.engine.proofs.Choosing.{pick_none, pick_number, pick_there}
 use Rattle.engine.proofs.choice.oldest.Goals as goal
-
-pub is_empty-requires : goal.is_empty-requires
-is_empty-requires c = matching_counted c.requires.matching
 
 pub ending-requires : goal.ending-requires
 ending-requires c = matching_room c.requires.matching
 
 pub enabled_at-requires : goal.enabled_at-requires
 enabled_at-requires c =
-    let e = c.is_empty.ensures in
-    (matching_counted c.requires.matching, omega (arith, eqb-false (length (places (flags_of c.args.flags.now))) 0 (sym e ∙ c.if-is_empty.false)))
+    let e = c.is_empty.ensures.value in
+    omega (arith, eqb-false (length (places c.args.flags.now)) 0 (sym e ∙ c.if-is_empty.false))
 
 pub returns-then-is_empty : goal.returns-then-is_empty
 returns-then-is_empty c =
     λ flags held g right arrived back table capacity count cs.
-    let none = eqb-true (length (places (flags_of c.args.flags.now))) 0 (sym c.is_empty.ensures ∙ c.if-is_empty.true) in
+    let none = eqb-true (length (places c.args.flags.now)) 0 (sym c.is_empty.ensures.value ∙ c.if-is_empty.true) in
     pick_none c.args.tables.now c.args.ledger.now c.args.used g right arrived table capacity count cs [] 0
     (sym (ap length (matching_places c.requires.matching)) ∙ none) _ c.ending.ensures
 
@@ -32,7 +29,7 @@ pub returns-else-is_empty : goal.returns-else-is_empty
 returns-else-is_empty c =
     λ flags held g right arrived back table capacity count cs.
     let m = c.requires.matching in
-    let some = eqb-false (length (places (flags_of c.args.flags.now))) 0 (sym c.is_empty.ensures ∙ c.if-is_empty.false) in
+    let some = eqb-false (length (places c.args.flags.now)) 0 (sym c.is_empty.ensures.value ∙ c.if-is_empty.false) in
     pick_there c.args.tables.now c.args.ledger.now c.args.used g right arrived table capacity count cs [] 0 m _
     (λ z. some (ap length (matching_places m) ∙ z))
     (pick_number m [] 0 _ 0 0 _ refl refl (sym (mod-eq_of_lt (omega (arith, some)))) c.enabled_at.ensures.0)

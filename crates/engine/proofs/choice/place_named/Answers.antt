@@ -6,33 +6,31 @@ use mathlib.Core.Bool.{false}
 use lib.ListN.{length}
 use borrow.Author.Tests.{eqb-false}
 use Rattle.record.specs.TokensAndTags.{same_tag}
+use Rattle.record.proofs.Equality.{equal_tags}
 use Rattle.record.specs.declared.token.Token.{Token}
-use Rattle.store_flags.specs.Flags.{places, flags_of}
-use Rattle.store.proofs.Laws.{matching_counted, matching_known, matching_room}
+use Rattle.store_flags.specs.Flags.{places}
+use Rattle.store.proofs.Laws.{matching_known, matching_room}
 use Rattle.engine.proofs.Choosing.{first_there, first_named}
 use Rattle.engine.proofs.choice.place_named.Goals as goal
 
-pub is_empty-requires : goal.is_empty-requires
-is_empty-requires c = matching_counted c.requires
-
 pub enabled_at-first-requires : goal.enabled_at-first-requires
 enabled_at-first-requires c =
-    let some : c.is_empty.result ≡ false → ¬ (length (places (flags_of c.args.flags.now)) ≡ 0) = λ e. eqb-false _ 0 (sym c.is_empty.ensures ∙ e) in
-    (matching_counted c.requires, omega (arith, some (c.if-not-is_empty.true)))
+    let some : c.is_empty.result ≡ false → ¬ (length (places c.args.flags.now) ≡ 0) = λ e. eqb-false _ 0 (sym c.is_empty.ensures.value ∙ e) in
+    omega (arith, some (c.if-not-is_empty.true))
 
 pub token_at-t-requires : goal.token_at-t-requires
 token_at-t-requires c =
-    let some : c.is_empty.result ≡ false → ¬ (length (places (flags_of c.args.flags.now)) ≡ 0) = λ e. eqb-false _ 0 (sym c.is_empty.ensures ∙ e) in
-    let enabled : ¬ (length (places (flags_of c.args.flags.now)) ≡ 0) = some (c.if-not-is_empty.true) in
+    let some : c.is_empty.result ≡ false → ¬ (length (places c.args.flags.now) ≡ 0) = λ e. eqb-false _ 0 (sym c.is_empty.ensures.value ∙ e) in
+    let enabled : ¬ (length (places c.args.flags.now) ≡ 0) = some (c.if-not-is_empty.true) in
     let there : c.enabled_at-first.result < c.args.used = first_there c.requires enabled c.enabled_at-first.result c.enabled_at-first.ensures.0 in
     omega (arith, there, matching_room c.requires)
 
-pub returns-then-same : goal.returns-then-same
-returns-then-same c =
-    let some : c.is_empty.result ≡ false → ¬ (length (places (flags_of c.args.flags.now)) ≡ 0) = λ e. eqb-false _ 0 (sym c.is_empty.ensures ∙ e) in
-    let enabled : ¬ (length (places (flags_of c.args.flags.now)) ≡ 0) = some (c.if-not-is_empty.true) in
+pub returns-then-eq : goal.returns-then-eq
+returns-then-eq c =
+    let some : c.is_empty.result ≡ false → ¬ (length (places c.args.flags.now) ≡ 0) = λ e. eqb-false _ 0 (sym c.is_empty.ensures.value ∙ e) in
+    let enabled : ¬ (length (places c.args.flags.now) ≡ 0) = some (c.if-not-is_empty.true) in
     let there : c.enabled_at-first.result < c.args.used = first_there c.requires enabled c.enabled_at-first.result c.enabled_at-first.ensures.0 in
-    let same = ap (λ (t : Token). same_tag t.tag c.args.tag) (sym c.token_at-t.ensures) ∙ sym c.same.ensures ∙ c.if-same.true in
+    let same = ap (λ (t : Token). same_tag t.tag c.args.tag) (sym c.token_at-t.ensures) ∙ sym (c.eq.ensures ∙ equal_tags c.token_at-t.result.tag c.args.tag) ∙ c.if-eq.true in
     (first_named c.requires (enabled) c.enabled_at-first.result c.enabled_at-first.ensures.0 c.args.tag same, there)
 
 pub enabled_by_tag-requires : goal.enabled_by_tag-requires

@@ -4,19 +4,8 @@ use Rattle.engine.proofs.turns.hold_first.Goals as goal
 
 pub follow-requires : goal.follow-requires
 follow-requires c =
-    let f = followed_whole c.args.graph.now c.args.ledger.now (rw c.in-Free.is at c.requires) in
-    (f.arities, f.grown, f.room.0, f.room.1, f.bound.0, f.bound.1, f.counted, f.unspent, f.carried)
+    let f = followed_whole c.args.graph.now c.args.ledger.now c.requires in
+    (f.arities, f.grown, f.room.0, f.room.1, f.bound.0, f.bound.1, f.unspent, f.carried)
 
-pub returns-in-Free : goal.returns-in-Free
-returns-in-Free c =
-    let f = rw c.in-Free.is at c.requires in
-    rw c.in-Free.is (record { bound = f.bound; kept = kept_whole c.args.graph.now c.args.ledger.now c.follow.ensures })
-
-pub returns-in-Oldest : goal.returns-in-Oldest
-returns-in-Oldest c = rw c.in-Oldest.is tt
-
-pub returns-in-Picks : goal.returns-in-Picks
-returns-in-Picks c = rw c.in-Picks.is tt
-
-pub returns-in-Log : goal.returns-in-Log
-returns-in-Log c = rw c.in-Log.is tt
+pub returns : goal.returns
+returns c = record { bound = c.requires.bound; kept = kept_whole c.args.graph.now c.args.ledger.now c.follow.ensures }

@@ -1,22 +1,60 @@
 -- `engine::turns::proceed` meets its contract: the held activities are known before the first turn, and the end is settled. Assumes nothing.
+use mathlib.Core.Path.{◌≡◌, refl, sym, ◌∙◌}
 use Rattle.record.specs.GraphRecords.{graph_of}
-use Rattle.store.proofs.Laws.{matching_counted, matching_room}
-use Rattle.engine.proofs.Bounding.{started_by, beside_of, settled_by}
+use Rattle.store.proofs.Laws.{matching_room}
+use Rattle.engine.proofs.Bounding.{started_on, none_kept, beside_of, settled_by}
 use Rattle.engine.proofs.turns.proceed.Goals as goal
+use Rattle.engine.proofs.turns.proceed.Goals.{in-Free, in_default}
 
 pub hold_first-requires : goal.hold_first-requires
-hold_first-requires c = started_by c.args.graph.now c.requires.0 c.requires.1 c.args.order c.requires.2
+hold_first-requires c =
+    let fits = rw c.in-Free.is at c.requires.2 in
+    rw (c.new-nexts.ensures, c.new-held.ensures) (started_on c.args.graph.now c.requires.0 c.requires.1 _ fits.0 fits.1)
 
 pub turns-own-requires : goal.turns-own-requires
-turns-own-requires c = (c.requires.0, c.requires.1, c.hold_first.ensures)
+turns-own-requires c = (
+  c.requires.0,
+  c.requires.1,
+  elim c.match-order.branch [
+    | in-Free w ↦ rw (w.order-is, w.nexts-is, w.held-is, w.marks-is) w.hold_first.ensures
+    | in_default w ↦ rw w.order-is (none_kept c.args.order w.in_default.not-Free _ _ _ _ _ _ _ _)
+  ],
+)
 
-pub settle_by-requires : goal.settle_by-requires
-settle_by-requires c =
+pub settle-requires : goal.settle-requires
+settle-requires c =
     let t = c.turns-own in
     let m = t.ensures.proceeded.running.matching in
-    (matching_counted m, beside_of c.args.graph.now c.requires.0 t.ensures.proceeded.running c.args.order _ _ _ t.ensures.bounding, matching_room m)
+    (rw c.in-Free-order.is at (beside_of c.args.graph.now c.requires.0 t.ensures.proceeded.running _ _ _ _ t.ensures.bounding), matching_room m)
 
-pub returns : goal.returns
-returns c =
+pub returns-in-Free-order : goal.returns-in-Free-order
+returns-in-Free-order c =
     let a = c.args in
-    let t = c.turns-own in record { proceeded = settled_by a.source.now (graph_of a.graph.now) a.tables.now _ _ _ _ _ a.ledger.now a.cells.now a.going.used a.going.budget _ _ t.result _ c.requires.0.arities_right a.order t.ensures.proceeded t.ensures.bounding c.settle_by.ensures; log_after = t.ensures.log_after }
+    let t = c.turns-own in
+    let o = c.match-order.order in
+    let same : o ≡ a.order = elim c.match-order.branch [ in-Free w ↦ w.order-is ∙ sym w.in-Free.is | in_default w ↦ w.order-is ] in
+    rw (sym same) (record { proceeded = settled_by a.source.now (graph_of a.graph.now) a.tables.now _ _ t.new.held _ _ a.ledger.now a.cells.now a.going.used a.going.budget t.new.nexts t.new.marks t.result c.settle.result c.requires.0.arities_right o t.ensures.proceeded t.ensures.bounding (rw c.in-Free-order.is c.settle.ensures); log_after = t.ensures.log_after })
+
+pub returns-in-Oldest : goal.returns-in-Oldest
+returns-in-Oldest c =
+    let a = c.args in
+    let t = c.turns-own in
+    let o = c.match-order.order in
+    let same : o ≡ a.order = elim c.match-order.branch [ in-Free w ↦ w.order-is ∙ sym w.in-Free.is | in_default w ↦ w.order-is ] in
+    rw (sym same) (record { proceeded = settled_by a.source.now (graph_of a.graph.now) a.tables.now _ _ t.new.held _ _ a.ledger.now a.cells.now a.going.used a.going.budget t.new.nexts t.new.marks t.result t.result c.requires.0.arities_right o t.ensures.proceeded t.ensures.bounding (rw c.in-Oldest.is refl); log_after = t.ensures.log_after })
+
+pub returns-in-Picks : goal.returns-in-Picks
+returns-in-Picks c =
+    let a = c.args in
+    let t = c.turns-own in
+    let o = c.match-order.order in
+    let same : o ≡ a.order = elim c.match-order.branch [ in-Free w ↦ w.order-is ∙ sym w.in-Free.is | in_default w ↦ w.order-is ] in
+    rw (sym same) (record { proceeded = settled_by a.source.now (graph_of a.graph.now) a.tables.now _ _ t.new.held _ _ a.ledger.now a.cells.now a.going.used a.going.budget t.new.nexts t.new.marks t.result t.result c.requires.0.arities_right o t.ensures.proceeded t.ensures.bounding (rw c.in-Picks.is refl); log_after = t.ensures.log_after })
+
+pub returns-in-Log : goal.returns-in-Log
+returns-in-Log c =
+    let a = c.args in
+    let t = c.turns-own in
+    let o = c.match-order.order in
+    let same : o ≡ a.order = elim c.match-order.branch [ in-Free w ↦ w.order-is ∙ sym w.in-Free.is | in_default w ↦ w.order-is ] in
+    rw (sym same) (record { proceeded = settled_by a.source.now (graph_of a.graph.now) a.tables.now _ _ t.new.held _ _ a.ledger.now a.cells.now a.going.used a.going.budget t.new.nexts t.new.marks t.result t.result c.requires.0.arities_right o t.ensures.proceeded t.ensures.bounding (rw c.in-Log.is refl); log_after = t.ensures.log_after })

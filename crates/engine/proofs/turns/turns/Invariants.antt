@@ -1,6 +1,4 @@
--- `engine::turns::turns` meets its contract. The invariant is what holds after some firings (proofs/Looping), and what is known of the held activities (proofs/Bounding); the measure
--- is how many the budget still allows. Assumes nothing.
-use Prim.Native.Nat.{◌-◌}
+-- `engine::turns::turns` meets its contract. The invariant is what holds after some firings (proofs/Looping), and what is known of the held activities (proofs/Bounding). Assumes nothing.
 use mathlib.Core.Path.{◌≡◌}
 use lib.ListN.{length}
 use Rattle.record.specs.GraphRecords.{graph_of}
@@ -10,11 +8,8 @@ use Rattle.engine.proofs.turns.turns.Given as goal
 
 abbrev pub invariant-loop-firings : goal.invariant-loop-firings
 invariant-loop-firings l =
-    SoFar (graph_of l.graph) l.order l.source l.initial.ledger l.initial.cells l.initial.used l.budget l.tables l.links l.flags l.ledger l.cells l.used l.firings
-    × Noted (graph_of l.graph) l.order l.source l.tables l.initial.ledger l.initial.cells l.initial.log l.initial.used l.budget l.ledger l.cells l.log l.used l.firings
-    × Bounding l.order (graph_of l.graph) l.tables l.flags l.ledger l.used l.nexts l.held l.marks
+    SoFar (graph_of l.graph) l.initial.order l.source l.initial.ledger l.initial.cells l.initial.used l.budget l.tables l.links l.flags l.ledger l.cells l.used l.firings
+    × Noted (graph_of l.graph) l.initial.order l.source l.tables l.initial.ledger l.initial.cells l.initial.log l.initial.used l.budget l.ledger l.cells l.log l.used l.firings
+    × Bounding l.initial.order (graph_of l.graph) l.tables l.flags l.ledger l.used l.nexts l.held l.marks
     × (length l.marks ≡ length l.initial.marks)
-
-abbrev pub decreases-loop-firings : goal.decreases-loop-firings
-decreases-loop-firings l =
-    l.budget - l.firings
+    × (l.order ≡ l.initial.order)

@@ -40,7 +40,7 @@ returns-then-not-named-j c =
     let a = c.args in
     let p = c.requires in
     let l = c.loop-j in
-    sym (l.invariant.1 ∙ in_turn_lem a.expression.now l.j (omega arith) false (by_mark a.expression.now a.named.now p.0 p.1 l.j (omega arith) ∙ c.if-not-named-j.true))
+    rw c.at.ensures (sym (l.invariant.1 ∙ in_turn_lem a.expression.now l.j (omega arith) false (by_mark a.expression.now a.named.now p.0 p.1 l.j (omega arith) ∙ c.if-not-named-j.true)))
 
 pub loop-j-preserved : goal.loop-j-preserved
 loop-j-preserved c =

@@ -1,5 +1,5 @@
 -- `expression::check::all_named` meets its contract. The invariant: the first j records passed, so that the rest decides. Assumes nothing.
-use Prim.Native.Nat.{ℕ, suc, ◌-◌, ◌/◌, ◌<◌}
+use Prim.Native.Nat.{ℕ, suc, ◌/◌, ◌<◌}
 use mathlib.Core.Bool.{Bool, ◌||◌}
 use mathlib.Core.Path.{◌≡◌}
 use mathlib.Core.List.{List}
@@ -9,8 +9,7 @@ use Rattle.record.specs.declared.term.Term.{Term}
 use Rattle.record.specs.ExpressionRecords.{expression_of}
 use Rattle.record.specs.Widths.{term_width}
 use Rattle.rules.specs.declared.answer.Refusal.TheVariants.{BadExpression}
-use Rattle.rules.specs.declared.answer.Checked.{Checked}
-use Rattle.rules.specs.Check.{demand, any, in_turn}
+use Rattle.rules.specs.Check.{demand, any, in_turn, Checked}
 use Rattle.rules.specs.Expression.{names}
 use Rattle.expression.proofs.check.all_named.Given as goal
 
@@ -22,6 +21,3 @@ named ts j t = demand (is_named ts j) BadExpression j
 
 abbrev pub invariant-loop-j : goal.invariant-loop-j
 invariant-loop-j l = (l.j < length l.expression / term_width) × (in_turn (named (expression_of l.expression)) 0 (expression_of l.expression) ≡ in_turn (named (expression_of l.expression)) l.j (drop l.j (expression_of l.expression)))
-
-abbrev pub decreases-loop-j : goal.decreases-loop-j
-decreases-loop-j l = length l.expression / term_width - l.j

@@ -1,5 +1,6 @@
 -- `expression::check::terms` meets its contract. The invariant: the first i records passed, so that the rest decides, and the table has what they name.
 -- Assumes nothing.
+use Rattle.std.proofs.Common.{Ok, Err}
 use Prim.Native.Nat.{ℕ, ◌+◌, ◌/◌, ◌<◌}
 use native.Mathlib.Omega.{arith}
 use mathlib.Core.Bool.{Bool, true, false}
@@ -10,9 +11,9 @@ use lib.Seq.{take_all}
 use Rattle.record.specs.declared.term.Term.{Term}
 use Rattle.record.specs.ExpressionRecords.{term_in, expression_of}
 use Rattle.record.specs.Widths.{term_width}
+use Rattle.rules.specs.declared.answer.Fault.{Fault}
 use Rattle.rules.specs.declared.answer.Refusal.TheVariants.{BadExpression}
-use Rattle.rules.specs.declared.answer.Checked.TheVariants.{Passed, Failed}
-use Rattle.rules.specs.Check.{demand, ◌and_then◌, in_turn}
+use Rattle.rules.specs.Check.{demand, ◌and_then◌, in_turn, Checked}
 use Rattle.rules.specs.Expression.{good_term}
 use Rattle.check_fields.proofs.Turns.{turn, turn_end, take_next}
 use Rattle.expression.proofs.Terms.{length_terms, in_terms, few_terms}
@@ -31,8 +32,8 @@ in_turn_lem : (s : List ℕ) (i : ℕ) → i < length s / term_width → (t : Te
 in_turn_lem s i l t told b e =
     turn (good (expression_of s)) (expression_of s) i t (omega (arith, length_terms s)) (in_terms s i l t ∙ sym told) (ap (λ (q : Bool). demand q BadExpression i) e)
 
-not_passed : {X : Type 0} (i : ℕ) → Failed BadExpression i ≡ Passed → X
-not_passed i e = let z : ◌≡◌ {A = ℕ} 0 1 = cc in absurd (omega arith)
+not_passed : {X : Type 0} {fault : Fault} → ◌≡◌ {A = Checked} (Err fault) (Ok tt) → X
+not_passed e = let z : ◌≡◌ {A = ℕ} 0 1 = cc in absurd (omega arith)
 
 pub loop-i-init : goal.loop-i-init
 loop-i-init c = let s = c.args.expression.now in (omega arith, refl, rw (nothing (expression_of s)) c.requires.1)
@@ -46,7 +47,7 @@ pub returns-then-not-good_term : goal.returns-then-not-good_term
 returns-then-not-good_term c =
     let l = c.loop-i in
     let s = c.args.expression.now in
-    let g = c.good_term.ensures (take l.i (expression_of s)) l.invariant.2 in record { value = sym (l.invariant.1 ∙ in_turn_lem s l.i (omega arith) _ c.term_at-t.ensures false (sym g ∙ c.if-not-good_term.true)); marked_named = not_passed l.i }
+    let g = c.good_term.ensures (take l.i (expression_of s)) l.invariant.2 in record { value = rw c.at.ensures (sym (l.invariant.1 ∙ in_turn_lem s l.i (omega arith) _ c.term_at-t.ensures false (sym g ∙ c.if-not-good_term.true))); marked_named = not_passed }
 
 pub mark-requires : goal.mark-requires
 mark-requires c =

@@ -1,6 +1,6 @@
 -- `expression::check::terms` meets its contract. The invariant: the first i records passed, so that the rest decides, and the table has what they name.
 -- Assumes nothing.
-use Prim.Native.Nat.{ℕ, ◌-◌, ◌/◌, ◌≤◌}
+use Prim.Native.Nat.{ℕ, ◌/◌, ◌≤◌}
 use mathlib.Core.Path.{◌≡◌}
 use mathlib.Core.List.{List}
 use lib.ListN.{length, take, drop}
@@ -8,8 +8,7 @@ use Rattle.record.specs.declared.term.Term.{Term}
 use Rattle.record.specs.ExpressionRecords.{expression_of}
 use Rattle.record.specs.Widths.{term_width}
 use Rattle.rules.specs.declared.answer.Refusal.TheVariants.{BadExpression}
-use Rattle.rules.specs.declared.answer.Checked.{Checked}
-use Rattle.rules.specs.Check.{demand, in_turn}
+use Rattle.rules.specs.Check.{demand, in_turn, Checked}
 use Rattle.rules.specs.Expression.{good_term}
 use Rattle.expression.specs.Tables.{MarkedNamed}
 use Rattle.expression.proofs.check.terms.Given as goal
@@ -22,6 +21,3 @@ invariant-loop-i l =
     (l.i ≤ length l.expression / term_width)
     × (in_turn (good (expression_of l.expression)) 0 (expression_of l.expression) ≡ in_turn (good (expression_of l.expression)) l.i (drop l.i (expression_of l.expression)))
     × MarkedNamed (take l.i (expression_of l.expression)) l.named
-
-abbrev pub decreases-loop-i : goal.decreases-loop-i
-decreases-loop-i l = length l.expression / term_width - l.i

@@ -7,8 +7,8 @@ use lib.ListN.{length}
 use mir.Syntax.{w32}
 use mir.Facts.{to_z-of_z}
 use borrow.Author.Tests.{eq-eqb, ne_eqb}
+use Rattle.std.specs.Prelude.{Some}
 use Rattle.record.specs.ExpressionRecords.{expression_of}
-use Rattle.arithmetic.specs.declared.Computed.TheVariants.{Value}
 use Rattle.expression.specs.Tables.{NumberedRecords}
 use Rattle.expression.proofs.Terms.{length_terms, passed_terms}
 use Rattle.expression.proofs.Puts.{names_before}
@@ -37,7 +37,7 @@ variable-requires t c =
 
 pub returns-then-t-eq0 : goal.returns-then-t-eq0
 returns-then-t-eq0 t c =
-    rw (to_z-of_z {w = w32} (record { sfits = c.variable.type_inv })) (ap Value c.variable.ensures
+    rw (to_z-of_z {w = w32} (record { sfits = c.variable.type_inv })) (ap Some c.variable.ensures
     ∙ sym (value_variable c.requires.0 c.args.i c.requires.1 c.term_at-t.result c.term_at-t.ensures c.args.values.now (eq-eqb c.term_at-t.result.kind 0 c.if-t-eq0.true)))
 
 pub value_at-left-requires : goal.value_at-left-requires

@@ -1,5 +1,5 @@
 -- `expression::numbers::variables` meets its contract. The invariant: the variables among the first i records are counted. Assumes nothing.
-use Prim.Native.Nat.{◌-◌, ◌/◌, ◌≤◌}
+use Prim.Native.Nat.{◌/◌, ◌≤◌}
 use mathlib.Core.Path.{◌≡◌}
 use lib.ListN.{length}
 use Rattle.record.specs.ExpressionRecords.{expression_of}
@@ -9,6 +9,3 @@ use Rattle.expression.proofs.numbers.variables.Given as goal
 
 abbrev pub invariant-loop-i : goal.invariant-loop-i
 invariant-loop-i l = (l.i ≤ length l.expression / term_width) × (l.n ≡ variable_number (expression_of l.expression) l.i) × (l.n ≤ l.i)
-
-abbrev pub decreases-loop-i : goal.decreases-loop-i
-decreases-loop-i l = length l.expression / term_width - l.i

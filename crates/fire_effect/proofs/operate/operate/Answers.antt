@@ -6,12 +6,12 @@ use lib.IntN.{ℤ}
 use mir.Facts.{to_z-of_z}
 use types.Run.{OneOf, miss}
 use denote.Enum.Declared.{tag_of}
+use Rattle.std.specs.Prelude.{Ok}
 use Rattle.record.specs.declared.array.NamedArray.{NamedArray}
 use Rattle.record.specs.declared.operation.Operation.{Operation}
 use Rattle.record.specs.declared.operation.Operation.TheVariants as Operations
 use Rattle.record.specs.contracts.operation.Operation.{the_type}
 use Rattle.fire_effect.specs.declared.operate.Action.TheVariants.{Send}
-use Rattle.fire_effect.specs.declared.operate.Operated.TheVariants.{Act}
 use Rattle.fire_effect.specs.Effects.{operated_of}
 use borrow.Enum.Refused.{opened}
 use borrow.Author.Rules.{rules}
@@ -21,7 +21,7 @@ use Rattle.fire_effect.proofs.operate.operate.Goals as goal
 abbrev rest : List ℕ
 rest = 0 ∷ 1 ∷ 2 ∷ 4 ∷ 5 ∷ 6 ∷ 7 ∷ 8 ∷ 13 ∷ []
 
-moves : (o : Operation) (table : List NamedArray) (k : ℤ) (cells : ℕ) (a b : ℤ) → OneOf rest (tag_of the_type o) → Act (Send a) ≡ operated_of o table k cells a b
+moves : (o : Operation) (table : List NamedArray) (k : ℤ) (cells : ℕ) (a b : ℤ) → OneOf rest (tag_of the_type o) → Ok (Send a) ≡ operated_of o table k cells a b
 unfolding operated_of
 moves Operations.Copy table k cells a b h = refl
 moves Operations.Sink table k cells a b h = refl

@@ -7,25 +7,8 @@ use lib.IntN.{nat_abs}
 use Rattle.record.specs.Calls.{enter_of}
 use Rattle.rules.specs.InstructionSet.{send_entered}
 use Rattle.fire_effect.proofs.Does.{refused}
-use borrow.Author.Rules.{rules}
 use Rattle.fire_effect.proofs.tags.enter.Goals as goal
 use Rattle.fire_effect.proofs.tags.enter.Goals.{After-enter}
-
-pub byte-requires : goal.byte-requires
-unfolding send_entered
-byte-requires c = search rules
-
-pub enter-requires : goal.enter-requires
-unfolding send_entered
-enter-requires c = search rules
-
-pub enum_known-inner : goal.enum_known-inner
-unfolding send_entered
-enum_known-inner c = search rules
-
-pub enum_told-1 : goal.enum_told-1
-unfolding send_entered
-enum_told-1 c = search rules
 
 pub returns-in_default : goal.returns-in_default
 unfolding send_entered
@@ -34,13 +17,9 @@ returns-in_default c =
     c.enter.ensures ∙ rw (c.byte.ensures, to_z-of_z fits) in
     rw (sym (gave) ∙ c.in_default.is) (refused _)
 
-pub to_one-requires : goal.to_one-requires
-unfolding send_entered
-to_one-requires c = search rules
-
 pub returns : goal.returns
 unfolding send_entered
 returns c =
     let gave : c.enter.result ≡ enter_of c.args.tag (nat_abs c.args.r.constant) = let fits : SFits w32 c.args.r.constant = record { sfits = c.struct_told-1.given.1.1.1.1.0.1 } in
     c.enter.ensures ∙ rw (c.byte.ensures, to_z-of_z fits) in
-    rw (sym (gave) ∙ c.in-In.is) c.to_one.ensures
+    rw (sym (gave) ∙ c.in-Some.is) c.to_one.ensures

@@ -1,6 +1,5 @@
 -- `range_engine::turns::turns` meets its contract. The invariant is what holds after so many firings (proofs/Looping), and what is known of the held activities (the engine's proofs/Bounding).
 -- Assumes nothing.
-use Prim.Native.Nat.{◌-◌}
 use mathlib.Core.Path.{◌≡◌}
 use lib.ListN.{length}
 use Rattle.record.specs.GraphRecords.{graph_of}
@@ -11,10 +10,7 @@ use Rattle.range_engine.proofs.turns.turns.Given as goal
 
 abbrev pub invariant-loop-firings : goal.invariant-loop-firings
 invariant-loop-firings l =
-    SoFar (graph_of l.graph) l.order l.picks l.initial.ledger l.initial.cells l.initial.table l.initial.used l.budget (table_of l.initial.count l.initial.table) l.tables l.links l.flags l.ledger l.cells l.table l.used l.firings l.count
-    × Bounding l.order (graph_of l.graph) l.tables l.flags l.ledger l.used l.nexts l.held l.marks
+    SoFar (graph_of l.graph) l.initial.order l.picks l.initial.ledger l.initial.cells l.initial.table l.initial.used l.budget (table_of l.initial.count l.initial.table) l.tables l.links l.flags l.ledger l.cells l.table l.used l.firings l.count
+    × Bounding l.initial.order (graph_of l.graph) l.tables l.flags l.ledger l.used l.nexts l.held l.marks
     × (length l.marks ≡ length l.initial.marks)
-
-abbrev pub decreases-loop-firings : goal.decreases-loop-firings
-decreases-loop-firings l =
-    l.budget - l.firings
+    × (l.order ≡ l.initial.order)

@@ -1,17 +1,9 @@
 -- `record::log::name_at` meets its contract. Assumes nothing.
-use Rattle.std.proofs.Common.{◌*◌, length, drop, arith, length-drop, get_or-drop, rules, eq-eqb, ne_eqb, le-leb}
+use Rattle.std.proofs.Common.{◌*◌, length, drop, arith, length-drop, get_or-drop, eq-eqb, ne_eqb, le-leb}
 use borrow.Author.Tests.{lt-leb}
 use Rattle.record.specs.Logs.{name_of}
 use Rattle.record.specs.Widths.{log_width}
 use Rattle.record.proofs.log.name_at.Goals as goal
-
-pub overflow_mul-at : goal.overflow_mul-at
-unfolding name_of
-overflow_mul-at c = search rules
-
-pub overflow_sub-log : goal.overflow_sub-log
-unfolding name_of
-overflow_sub-log c = search rules
 
 pub returns-then-log-at-lt-WIDTH : goal.returns-then-log-at-lt-WIDTH
 unfolding name_of
@@ -19,23 +11,11 @@ returns-then-log-at-lt-WIDTH c =
     let a = c.args in
     rw (lt-leb log_width (length (drop (a.i * log_width) a.log.now)) (rw length-drop (omega arith)))
 
-pub overflow_add-at : goal.overflow_add-at
-unfolding name_of
-overflow_add-at c = search rules
-
-pub bounds-log-at : goal.bounds-log-at
-unfolding name_of
-bounds-log-at c = search rules
-
 pub returns-then-log-at-ne0 : goal.returns-then-log-at-ne0
 unfolding name_of
 returns-then-log-at-ne0 c =
     let a = c.args in
     rw (le-leb log_width (length (drop (a.i * log_width) a.log.now)) (rw length-drop (omega arith)), get_or-drop (a.i * log_width) a.log.now 17 0, ne_eqb _ _ c.if-log-at-ne0.true)
-
-pub row_at-requires : goal.row_at-requires
-unfolding name_of
-row_at-requires c = search rules
 
 pub decode-requires : goal.decode-requires
 unfolding name_of

@@ -5,6 +5,3 @@ use Rattle.text.proofs.line.put_path_digits.Given as goal
 
 abbrev pub invariant-loop-left : goal.invariant-loop-left
 invariant-loop-left l = Putting l.initial.out l.at l.k (path_number l.fn.path) l.out (path_number l.rest) l.left
-
-abbrev pub decreases-loop-left : goal.decreases-loop-left
-decreases-loop-left l = l.left

@@ -4,34 +4,6 @@ use Rattle.record.specs.Calls.{enter_within}
 use Rattle.record.proofs.Paths.{entered_words, shallow, deep}
 use Rattle.record.proofs.tag.Tag.enter.Goals as goal
 
-pub overflow_mul-result : goal.overflow_mul-result
-unfolding enter_within
-overflow_mul-result c = search rules
-
-pub overflow_mul-result-then-high-lt-DEEPEST : goal.overflow_mul-result-then-high-lt-DEEPEST
-unfolding enter_within
-overflow_mul-result-then-high-lt-DEEPEST c = search rules
-
-pub overflow_add-result : goal.overflow_add-result
-unfolding enter_within
-overflow_add-result c = search rules
-
-pub overflow_cast-result-then-high-lt-DEEPEST : goal.overflow_cast-result-then-high-lt-DEEPEST
-unfolding enter_within
-overflow_cast-result-then-high-lt-DEEPEST c = search rules
-
-pub overflow_add-result-then-high-lt-DEEPEST : goal.overflow_add-result-then-high-lt-DEEPEST
-unfolding enter_within
-overflow_add-result-then-high-lt-DEEPEST c = search rules
-
-pub overflow_mul-result-then-high-lt-DEEPEST-2 : goal.overflow_mul-result-then-high-lt-DEEPEST-2
-unfolding enter_within
-overflow_mul-result-then-high-lt-DEEPEST-2 c = search rules
-
-pub overflow_add-result-then-high-lt-DEEPEST-2 : goal.overflow_add-result-then-high-lt-DEEPEST-2
-unfolding enter_within
-overflow_add-result-then-high-lt-DEEPEST-2 c = search rules
-
 pub returns-then-high-lt-DEEPEST : goal.returns-then-high-lt-DEEPEST
 unfolding enter_within
 returns-then-high-lt-DEEPEST c =

@@ -4,25 +4,9 @@ use Rattle.record.specs.Calls.{leave_of}
 use Rattle.record.proofs.Paths.{lowered_fits, left_words, left_site, left_iteration}
 use Rattle.record.proofs.tag.Tag.leave.Goals as goal
 
-pub is_root-requires : goal.is_root-requires
-unfolding leave_of
-is_root-requires c = search rules
-
-pub overflow_cast-result : goal.overflow_cast-result
-unfolding leave_of
-overflow_cast-result c = search rules
-
-pub overflow_mul-result : goal.overflow_mul-result
-unfolding leave_of
-overflow_mul-result c = search rules
-
 pub overflow_add-result : goal.overflow_add-result
 unfolding leave_of
 overflow_add-result c = record { fits = lowered_fits c.args.self.path (search rules) }
-
-pub overflow_cast-result-else-is_root : goal.overflow_cast-result-else-is_root
-unfolding leave_of
-overflow_cast-result-else-is_root c = search rules
 
 pub returns-then-is_root : goal.returns-then-is_root
 unfolding leave_of

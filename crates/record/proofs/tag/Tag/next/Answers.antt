@@ -1,11 +1,7 @@
 -- `record::tag::Tag::next` meets its contract. Assumes nothing.
-use Rattle.std.proofs.Common.{rules, le-ltb, lt-ltb}
+use Rattle.std.proofs.Common.{le-ltb, lt-ltb}
 use Rattle.record.specs.Calls.{next_of}
 use Rattle.record.proofs.tag.Tag.next.Goals as goal
-
-pub overflow_add-result : goal.overflow_add-result
-unfolding next_of
-overflow_add-result c = search rules
 
 pub returns-then-iteration-lt255 : goal.returns-then-iteration-lt255
 unfolding next_of

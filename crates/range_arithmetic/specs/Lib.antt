@@ -1,2 +1,0 @@
--- What range arithmetic answers. Assumes nothing.
-pub mod Given

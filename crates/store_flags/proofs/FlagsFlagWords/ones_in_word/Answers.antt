@@ -1,0 +1,6 @@
+-- `ones_in_word` of a `store_flags::Flags` meets its contract. Assumes nothing.
+use Rattle.store_flags.proofs.Words.{block_count, flag_list}
+use Rattle.store_flags.proofs.FlagsFlagWords.ones_in_word.Goals as goal
+
+pub returns : goal.returns
+returns c = rw (← c.self.view_is) record { value = block_count c.self.invariant c.args.b c.requires; list = flag_list c.self.invariant }
