@@ -2,16 +2,17 @@
 #![tactic(auto)]
 
 ghost use Rattle.std.specs.Prelude.{◌≡◌, false, ◌/◌, ◌≤◌, ◌<◌, length, take};
-ghost use Rattle.record.specs.GraphRecords.{OperandCounts, graph_of};
+ghost use Rattle.record.specs.GraphRecords.{graph_of};
 ghost use Rattle.record.specs.TokensAndTags.{is_input, stands_at};
 ghost use Rattle.record.specs.Widths.{token_width};
 ghost use Rattle.rules.specs.Check.{any, good_input, second_input, check_inputs};
 ghost use Rattle.check_inputs.specs.Inputs.{input_tokens, check_fields, check_second, entry_of};
 
 use check_fields::arc;
+use record::operation::OperandCounts;
 use record::tag::Tag;
 use record::token::Token;
-use record::{operation, tag, token};
+use record::{tag, token};
 use rules::answer::{Fault, Refusal};
 
 // Of the record that s starts with: root path and iteration, state 0, zeros.
@@ -25,8 +26,8 @@ fn is_input(s: &[u8]) -> bool
 }
 
 // 6, of the record that s starts with.
-fn good(counts: &[u8; 256], graph: &[u8], s: &[u8]) -> bool
-    requires { OperandCounts counts.now × (token_width ≤ length s.now) }
+fn good(counts: &OperandCounts, graph: &[u8], s: &[u8]) -> bool
+    requires { token_width ≤ length s.now }
     ensures { result ≡ good_input (graph_of graph.now) s.now }
 {
     is_input(s)
@@ -37,7 +38,7 @@ fn good(counts: &[u8; 256], graph: &[u8], s: &[u8]) -> bool
 pub fn fields(graph: &[u8], inputs: &[u8]) -> Result<(), Fault>
     ensures { result ≡ check_fields (graph_of graph.now) inputs.now }
 {
-    let counts = operation::counts();
+    let counts = OperandCounts::new();
     for i in 0..inputs.len() / token::WIDTH {
         if !good(&counts, graph, buffer::row_at(inputs, token::WIDTH, i)) {
             return Err(Refusal::BadInput.at(i));

@@ -5,7 +5,7 @@
 ghost use Rattle.std.specs.Prelude.{◌≡◌, ℕ, ◌+◌, ◌/◌, ◌≤◌, ◌<◌, length, get_or, Ok};
 ghost use Rattle.record.specs.Widths.{array_width};
 ghost use Rattle.record.specs.Arrays.{most_arrays, arrays_of};
-ghost use Rattle.record.specs.GraphRecords.{OperandCounts, graph_of};
+ghost use Rattle.record.specs.GraphRecords.{graph_of};
 ghost use Rattle.record.specs.declared.tag.Tag.{Tag};
 ghost use Rattle.rules.specs.InstructionSet.{arity_in};
 ghost use Rattle.store_enabled.specs.Enabled.{waited_for};
@@ -15,12 +15,12 @@ ghost use Rattle.abstraction.specs.Tables.{Arities, Returns, arrays_in, TablesOf
 
 use check_fields::constant;
 use record::instruction::Instruction;
-use record::{array, instruction, operation};
+use record::operation::OperandCounts;
+use record::{array, instruction};
 use store_enabled::Tables;
 
 // The entry of instruction i, which says for each of its activities how many operands that waits for.
-fn entry_at(counts: &[u8; 256], graph: &[u8], i: usize) -> u16
-    requires { OperandCounts counts.now }
+fn entry_at(counts: &OperandCounts, graph: &[u8], i: usize) -> u16
     ensures { (tag : Tag) → tag.instruction ≡ i → waited_for result tag ≡ arity_in (graph_of graph.now) tag }
 {
     if i < graph.len() / instruction::WIDTH {
@@ -28,7 +28,7 @@ fn entry_at(counts: &[u8; 256], graph: &[u8], i: usize) -> u16
         match code {
             3 => 0,
             9 => store_enabled::LEAVE_ENTRY,
-            _ => operation::count_of(counts, code) as u16,
+            _ => counts.of(code) as u16,
         }
     } else {
         0
@@ -41,7 +41,7 @@ fn arities(graph: &[u8], out: &mut Tables)
     ensures arities { Arities (graph_of graph.now) out.new × (length out.new ≡ 641) }
     ensures returns { Returns (graph_of graph.now) out.old → Returns (graph_of graph.now) out.new }
 {
-    let counts = operation::counts();
+    let counts = OperandCounts::new();
     for i in 0..256 {
         out[i + 385] = entry_at(&counts, graph, i);
     }

@@ -1,6 +1,7 @@
 // The operations: which one a code names, and how many operands each code has.
 ghost use Rattle.std.specs.Prelude.{◌≡◌};
-ghost use Rattle.record.specs.GraphRecords.{operation_of, operands_of, OperandCounts};
+ghost use Rattle.record.specs.GraphRecords as Graph;
+ghost use Rattle.record.specs.GraphRecords.{operation_of, operands_of};
 
 #[derive(Clone, Copy)]
 pub enum Arithmetic {
@@ -83,17 +84,38 @@ const OPERANDS: [u8; 256] = [
 
 // The table, for callers that look up many codes: `operands` copies it at each.
 pub fn counts() -> [u8; 256]
-    ensures { OperandCounts result }
+    ensures { Graph.OperandCounts result }
 {
     OPERANDS
 }
 
 // The operand count of a code, by the table.
 pub fn count_of(counts: &[u8; 256], code: u8) -> u8
-    requires { OperandCounts counts.now }
+    requires { Graph.OperandCounts counts.now }
     ensures { result ≡ operands_of code }
 {
     counts[code as usize]
+}
+
+// The table with what it says.
+#[derive(Drop)]
+pub struct OperandCounts {
+    table: [u8; 256],
+    ghost right: { Graph.OperandCounts table },
+}
+
+impl OperandCounts {
+    pub fn new() -> Self
+        ensures { Graph.OperandCounts result.table }
+    {
+        OperandCounts { table: counts() }
+    }
+
+    pub fn of(&self, code: u8) -> u8
+        ensures { result ≡ operands_of code }
+    {
+        count_of(&self.table, code)
+    }
 }
 
 pub fn operands(code: u8) -> u8

@@ -21,9 +21,10 @@ ghost use Rattle.saved.specs.Passes.{EnteredSites, content_allowed, arrives_at, 
 
 use check_fields::{arc, site};
 use record::cell::Cell;
+use record::operation::OperandCounts;
 use record::tag::Tag;
 use record::token::{Content, Token};
-use record::{cell, instruction, operation, token};
+use record::{cell, instruction, token};
 use store_chains::Links;
 use store_enabled::Tables;
 use store_flags::Flags;
@@ -80,7 +81,7 @@ fn port_allowed(graph: &[u8], tables: &Tables, t: Token) -> bool
     let tag = t.tag;
     let operands = store_enabled::arity(tables, tag);
     if operands == 0 {
-        let counts = operation::counts();
+        let counts = OperandCounts::new();
         return t.port < arc::operands_at(&counts, graph, tag.instruction);
     }
     (t.port as u16) < operands

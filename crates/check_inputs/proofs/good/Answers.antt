@@ -15,10 +15,6 @@ pub u16_at-requires : goal.u16_at-requires
 unfolding good_input
 u16_at-requires c = search rules
 
-pub operands_at-requires : goal.operands_at-requires
-unfolding good_input
-operands_at-requires c = search rules
-
 pub returns-then-is_input : goal.returns-then-is_input
 unfolding good_input
 returns-then-is_input c = rw (← c.is_input.ensures, c.if-is_input.true, c.operands_at.ensures, c.u16_at.ensures)

@@ -16,10 +16,6 @@ pub bounds-graph-i : goal.bounds-graph-i
 unfolding waited_for row_of
 bounds-graph-i c = search rules
 
-pub count_of-requires : goal.count_of-requires
-unfolding waited_for row_of
-count_of-requires c = search rules
-
 pub overflow_cast-result : goal.overflow_cast-result
 unfolding waited_for row_of
 overflow_cast-result c = search rules
@@ -37,7 +33,7 @@ unfolding waited_for row_of
 returns-in_default c =
     let a = c.args in
     let m = c.in_default.in_default-own in
-    entry_in a.graph.now a.i c.count_of.result (omega arith) (λ τ. rw c.count_of.ensures (count_entry _ τ m.rest.0.1 m.rest.1))
+    entry_in a.graph.now a.i c.of.result (omega arith) (λ τ. rw c.of.ensures (count_entry _ τ m.rest.0.1 m.rest.1))
 
 pub returns-else-i-graph : goal.returns-else-i-graph
 unfolding waited_for row_of

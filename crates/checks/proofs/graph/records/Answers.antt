@@ -16,7 +16,7 @@ pub loop-i-init : goal.loop-i-init
 loop-i-init c = (omega arith, refl, no_sites, refl)
 
 pub record-requires : goal.record-requires
-record-requires c = (c.counts-counts.ensures, c.loop-i.invariant.2)
+record-requires c = c.loop-i.invariant.2
 
 pub returns-in_err-record : goal.returns-in_err-record
 returns-in_err-record c =
