@@ -12,7 +12,7 @@ use lib.ListN.{length, get_or, take, drop, replicate, get_or-replicate}
 use lib.Seq.{length-take-le}
 use lib.IntN.{pos}
 use Rattle.record.specs.declared.tag.Tag.{Tag}
-use Rattle.std.specs.Prelude.{Some, None}
+use mir.Val.{bool_byte as from_bool}
 use Rattle.record.specs.declared.token.Content.{Content}
 use Rattle.record.specs.declared.token.Content.TheVariants.{Live, Spent, Deferred}
 use Rattle.record.specs.declared.instruction.Instruction.{Instruction}
@@ -202,3 +202,13 @@ counts_more test i n r c f = rw (add-one i) (go (test i) refl f)
     go : (b : Bool) → test i ≡ b → r ≡ cond b 1 0 → Counts test (suc i) (n + r)
     go true e h = record { few = omega (arith, c.few); number = rw e (omega (arith, c.number)) }
     go false e h = record { few = omega (arith, c.few); number = rw e (omega (arith, c.number)) }
+
+-- a test as a number
+
+pub byte_low : {r : ℕ} (b : Bool) → r ≡ from_bool b → r ≤ 1
+byte_low true e = omega (arith, e)
+byte_low false e = omega (arith, e)
+
+pub byte_cond : (b : Bool) → from_bool b ≡ cond b 1 0
+byte_cond true = refl
+byte_cond false = refl

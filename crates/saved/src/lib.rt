@@ -2,7 +2,7 @@
 // one answer, so they may be asked in any order.
 #![tactic(auto)]
 
-ghost use Rattle.std.specs.Prelude.{ℕ, ◌*◌, ◌/◌, ◌%◌, ◌≤◌, ◌<◌, ◌≡◌, true, cond, List, length, take, drop, replicate, eqb, ltb};
+ghost use Rattle.std.specs.Prelude.{ℕ, ◌*◌, ◌/◌, ◌%◌, ◌≤◌, ◌<◌, ◌≡◌, true, List, length, take, drop, replicate, eqb, ltb};
 ghost use Rattle.record.specs.declared.instruction.Instruction.{Instruction};
 ghost use Rattle.record.specs.GraphRecords.{graph_of};
 ghost use Rattle.record.specs.TokensAndTags.{encode_token, decode_token, tokens, token_at, TokenFits, is_spent_record};
@@ -127,25 +127,17 @@ fn arrives(
 fn is_spent(content: Content) -> bool
     ensures { result ≡ is_spent_record content }
 {
-    match content {
-        Content::Live(_) => false,
-        Content::Spent(_) => true,
-        Content::Deferred(_) => false,
-    }
+    matches!(content, Content::Spent(_))
 }
 
 fn spent_found(ledger: &[u8], used: usize, f: Option<usize>) -> bool
     requires { FoundWithin f used × (used ≤ length ledger.now / token_width) }
     ensures { result ≡ spent_found (token_at ledger.now) f }
 {
-    match f {
-        Some(j) => {
-            let t = token::token_at(ledger, j);
-            let content = t.content;
-            is_spent(content)
-        }
-        None => false,
-    }
+    f.is_some_and(|j| {
+        let t = token::token_at(ledger, j);
+        is_spent(t.content)
+    })
 }
 
 // Whether t is a spent operand of a tag that waits for two.
@@ -177,12 +169,6 @@ fn first_spent(t: Token) -> bool
     t.port == 0 && is_spent(content)
 }
 
-fn one_if(b: bool) -> usize
-    ensures { (result ≡ cond b 1 0) × (result ≤ 1) }
-{
-    if b { 1 } else { 0 }
-}
-
 // The pass over the tokens: each arrives in the matching store of those before it. Operands are spent together if half of those
 // that are spent, of two, close a pair.
 fn enter(
@@ -210,9 +196,9 @@ fn enter(
             return false;
         }
         let t = token::token_at(ledger, i);
-        fired += one_if(first_spent(t));
-        of_two += one_if(spent_of_two(tables, t));
-        closed += one_if(closes(tables, links, ledger, i, t));
+        fired += usize::from(first_spent(t));
+        of_two += usize::from(spent_of_two(tables, t));
+        closed += usize::from(closes(tables, links, ledger, i, t));
         let tag = t.tag;
         let Some(slot) = store::seek(links, ledger, i, tag, t.port) else {
             // `arrives` found none there.
@@ -226,11 +212,7 @@ fn enter(
 fn is_waiting(cell: Cell) -> bool
     ensures { result ≡ is_waiting_record cell }
 {
-    match cell {
-        Cell::Absent => false,
-        Cell::Waiting => true,
-        Cell::Present(_) => false,
-    }
+    matches!(cell, Cell::Waiting)
 }
 
 // Whether state and value of the cell record that s starts with are allowed; then its bytes are those of its cell.
@@ -252,11 +234,7 @@ fn cell_right(links: &Links, cells: &[u8], c: usize) -> bool
         return false;
     }
     let x = cell::cell_at(cells, c);
-    if is_waiting(x) {
-        store::any_deferred(links, c)
-    } else {
-        !store::any_deferred(links, c)
-    }
+    store::any_deferred(links, c) == is_waiting(x)
 }
 
 // The pass over the cells.

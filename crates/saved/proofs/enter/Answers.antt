@@ -18,7 +18,7 @@ use Rattle.store_enabled.specs.Store.{StandingRecord}
 use Rattle.store.proofs.Laws.{matching_known}
 use Rattle.store.proofs.Writing.{put_same}
 use Rattle.saved.specs.Passes.{arrives_at, spent_of_two, closes_at, first_spent, enters_all}
-use Rattle.saved.proofs.Laws.{all_fails, all_more, told, arrives_parts, arrives_alone, counts_none, counts_more}
+use Rattle.saved.proofs.Laws.{all_fails, all_more, told, arrives_parts, arrives_alone, counts_none, counts_more, byte_low, byte_cond}
 use Rattle.saved.proofs.enter.Goals as goal
 
 -- record i, which can arrive, stands in its token
@@ -61,13 +61,13 @@ pub overflow_add-fired : goal.overflow_add-fired
 unfolding enters_all
 overflow_add-fired c =
     let l = c.loop-i in
-    omega (arith, l.invariant.3.few, c.one_if-fired.ensures.1, l.invariant.0, c.requires.1, c.requires.2)
+    omega (arith, l.invariant.3.few, byte_low _ c.from-fired.ensures, l.invariant.0, c.requires.1, c.requires.2)
 
 pub overflow_add-of_two : goal.overflow_add-of_two
 unfolding enters_all
 overflow_add-of_two c =
     let l = c.loop-i in
-    omega (arith, l.invariant.4.few, c.one_if-of_two.ensures.1, l.invariant.0, c.requires.1, c.requires.2)
+    omega (arith, l.invariant.4.few, byte_low _ c.from-of_two.ensures, l.invariant.0, c.requires.1, c.requires.2)
 
 pub closes-requires : goal.closes-requires
 unfolding enters_all
@@ -77,7 +77,7 @@ pub overflow_add-closed : goal.overflow_add-closed
 unfolding enters_all
 overflow_add-closed c =
     let l = c.loop-i in
-    omega (arith, l.invariant.5.few, c.one_if-closed.ensures.1, l.invariant.0, c.requires.1, c.requires.2)
+    omega (arith, l.invariant.5.few, byte_low _ c.from-closed.ensures, l.invariant.0, c.requires.1, c.requires.2)
 
 pub seek-requires : goal.seek-requires
 unfolding enters_all
@@ -113,9 +113,9 @@ loop-i-preserved c =
       omega (arith, c.loop-i-test.true),
       c.enter.ensures,
       all_more (arrives_at (graph_of a.graph.now) a.tables.now m a.count) l.i (sym c.arrives.ensures.value ∙ c.if-not-arrives.false) l.invariant.2,
-      counts_more (first_spent m) l.i l.fired c.one_if-fired.result l.invariant.3 (c.one_if-fired.ensures.0 ∙ ap (λ (b : Bool). cond b 1 0) (c.first_spent.ensures m l.i e)),
-      counts_more (spent_of_two a.tables.now m) l.i l.of_two c.one_if-of_two.result l.invariant.4 (c.one_if-of_two.ensures.0 ∙ ap (λ (b : Bool). cond b 1 0) (c.spent_of_two.ensures m l.i e)),
-      counts_more (closes_at a.tables.now m) l.i l.closed c.one_if-closed.result l.invariant.5 (c.one_if-closed.ensures.0 ∙ ap (λ (b : Bool). cond b 1 0) c.closes.ensures),
+      counts_more (first_spent m) l.i l.fired c.from-fired.result l.invariant.3 (c.from-fired.ensures ∙ byte_cond _ ∙ ap (λ (b : Bool). cond b 1 0) (c.first_spent.ensures m l.i e)),
+      counts_more (spent_of_two a.tables.now m) l.i l.of_two c.from-of_two.result l.invariant.4 (c.from-of_two.ensures ∙ byte_cond _ ∙ ap (λ (b : Bool). cond b 1 0) (c.spent_of_two.ensures m l.i e)),
+      counts_more (closes_at a.tables.now m) l.i l.closed c.from-closed.result l.invariant.5 (c.from-closed.ensures ∙ byte_cond _ ∙ ap (λ (b : Bool). cond b 1 0) c.closes.ensures),
     )
 
 pub overflow_mul-closed : goal.overflow_mul-closed
