@@ -2,30 +2,17 @@
 use Prim.Native.Nat.{◌*◌}
 use mathlib.Core.Bool.{Bool, true, false, not, cond, beq}
 use mathlib.Core.Path.{◌≡◌, refl, sym, ap, ◌∙◌}
-use native.Mathlib.Omega.{arith}
-use lib.ListN.{drop, length-drop}
+use lib.ListN.{drop}
 use Rattle.record.specs.Widths.{cell_width}
 use Rattle.machine.proofs.View.{false_true}
 use Rattle.rules.specs.Saved.{cell_allowed}
-use Rattle.saved.specs.Passes.{CellBytes, cell_right}
+use Rattle.saved.specs.Passes.{cell_right}
 use Rattle.saved.proofs.cell_right.Goals as goal
 use Rattle.saved.proofs.cell_right.Goals.{After-cell_allowed}
-
-pub row_at-requires : goal.row_at-requires
-unfolding cell_right
-row_at-requires c = omega (arith, c.requires.0)
-
-pub cell_allowed-requires : goal.cell_allowed-requires
-unfolding cell_right
-cell_allowed-requires c = rw (c.row_at.ensures, length-drop) (omega (arith, c.requires.0))
 
 pub returns-then-not-cell_allowed : goal.returns-then-not-cell_allowed
 unfolding cell_right
 returns-then-not-cell_allowed c = let allowed : let a = c.args in cell_allowed (drop (a.c * cell_width) a.cells.now) ≡ c.cell_allowed.result = ap cell_allowed (sym c.row_at.ensures) ∙ sym c.cell_allowed.ensures.value in record { by_index = (λ tables flags ledger used m. rw (allowed, c.if-not-cell_allowed.true)); cell_bytes = (λ h. false_true h) }
-
-pub any_deferred-requires : goal.any_deferred-requires
-unfolding cell_right
-any_deferred-requires c = c.requires.1
 
 waits : (a w : Bool) → beq a w ≡ cond w a (not a)
 waits true true = refl

@@ -15,12 +15,6 @@ use Rattle.saved.proofs.find_sites.Goals as goal
 pub loop-i-init : goal.loop-i-init
 loop-i-init c = (omega arith, refl, no_sites)
 
-pub instruction_at-requires : goal.instruction_at-requires
-instruction_at-requires c = omega (arith, c.loop-i-test.true)
-
-pub loop-i-smaller : goal.loop-i-smaller
-loop-i-smaller c = omega (arith, c.loop-i-test.true)
-
 pub loop-i-preserved : goal.loop-i-preserved
 loop-i-preserved c =
     let l = c.loop-i in

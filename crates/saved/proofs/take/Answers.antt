@@ -26,9 +26,6 @@ returns-then-not-enter c =
       running = (λ h. false_true h);
     }
 
-pub cells_right-requires : goal.cells_right-requires
-cells_right-requires c = c.requires.3
-
 pub returns : goal.returns
 returns c =
     let room : c.args.used ≤ length c.args.ledger.now / token_width = omega (arith, c.if-ledger-used.false) in
