@@ -49,12 +49,6 @@ three_digits n h k =
     let e : n / 10 / 10 ≡ n / 100 = omega arith in
     decimal_more n (omega arith) ∙ ap (λ l. l ++ digit (n % 10) ∷ []) (two_digits (n / 10) (omega arith) (omega arith) ∙ ap (λ m. digit m ∷ digit (n / 10 % 10) ∷ []) e)
 
-pub length_thousand : (n : ℕ) → 1000 ≤ n → length (decimal n) ≡ 3 + length (decimal (n / 1000))
-length_thousand n h =
-    let e : n / 10 / 10 / 10 ≡ n / 1000 = omega arith in
-    let f = length_more (n / 10 / 10) (omega arith) in
-    omega (arith, length_more n (omega arith), length_more (n / 10) (omega arith), rw e at f)
-
 -- ---- the last k digits
 
 pub length_last : (k n : ℕ) → length (last_digits k n) ≡ k
@@ -105,6 +99,18 @@ at_most (suc k) n h = go (ltb n 10) refl (λ r. at_most k (n / 10) r)
     go false e r =
         let p = r (omega (arith, pow-suc 10 (suc k))) in
         rw (length_more n (ltb-false n 10 e)) (omega arith)
+
+-- and a number from 10 ^ k on has one more
+pub has_digits : (k n : ℕ) → 10 ^ k ≤ n → n < 10 * 10 ^ k → length (decimal n) ≡ suc k
+has_digits zero n h l = ap length (decimal_digit n (omega arith))
+has_digits (suc k) n h l =
+    let p = pow-suc 10 k in
+    let s = some_power k in
+    length_more n (omega arith) ∙ ap suc (has_digits k (n / 10) (omega arith) (omega arith))
+  where
+    some_power : (k : ℕ) → 0 < 10 ^ k
+    some_power zero = omega arith
+    some_power (suc k) = omega (arith, pow-suc 10 k, some_power k)
 
 -- a machine number has 20 digits at most
 pub short : (n : ℕ) → n < 2 ^ 64 → length (decimal n) ≤ 20

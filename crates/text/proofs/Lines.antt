@@ -109,6 +109,10 @@ room_first s t h = record { room = omega (arith, length-append s t) }
 pub room_rest : {l m : List ℕ} {at k : ℕ} {s : List ℕ} (t : List ℕ) → AddedText l m at k s → RoomForText l at (s ++ t) → RoomForText m k t
 room_rest {s = s} t a h = record { room = omega (arith, length-append s t, a.place, a.kept) }
 
+-- for a text and the byte that ends it
+pub room_end : {l : List ℕ} {at : ℕ} (s : List ℕ) (e : ℕ) → RoomForText l at (s ++ e ∷ []) → at + length s < length l
+room_end s e h = omega (arith, length-append s (e ∷ []), h.room)
+
 -- ---- a line of two fields or more: its first field, and the line of the others
 
 module _ (g : List ℕ) (fs : List (List ℕ)) where

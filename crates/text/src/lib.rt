@@ -12,6 +12,7 @@ ghost use Rattle.record.specs.Cells as Cells;
 ghost use Rattle.record.specs.declared.cell.Cell.TheVariants.{Absent};
 ghost use Rattle.record.specs.Widths.{token_width, cell_width};
 
+use crate::digits::Small;
 use record::cell::Cell;
 use record::tag::Path;
 use record::{cell, token};
@@ -123,7 +124,7 @@ fn put_tokens(out: &mut [u8], from: usize, listing: &[u8]) -> usize
     requires { RoomForText out.old from (text_of_lines (token_lines listing.now)) }
     ensures { AddedText out.old out.new from result (text_of_lines (token_lines listing.now)) }
 {
-    let small = digits::small();
+    let small = Small::new();
     let n = listing.len() / token::WIDTH;
     let mut text = [0u8; 40];
     let mut last = Path { low: 0, high: 0 };

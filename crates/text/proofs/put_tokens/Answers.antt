@@ -24,7 +24,7 @@ put_record-at-requires c =
     let g = c.args.listing.now in
     let r = c.row_at-row.ensures in
     let h : k.i < length g / token_width = omega arith in
-    let lt : k.i < length (token_lines g) = omega (arith, count_tokens g) in record { token_width_in_bounds = (rw (r, length-drop) (omega arith), c.small-small.ensures, rw c.path_of-path.ensures at c.keep_path-count.ensures); room_for_text = rw r (rw (token_at_lem g k.i h) at (line_room (token_lines g) k.i lt k.invariant.1 c.requires)) }
+    let lt : k.i < length (token_lines g) = omega (arith, count_tokens g) in record { token_width_in_bounds = (rw (r, length-drop) (omega arith), rw c.path_of-path.ensures at c.keep_path-count.ensures); room_for_text = rw r (rw (token_at_lem g k.i h) at (line_room (token_lines g) k.i lt k.invariant.1 c.requires)) }
 
 pub loop-i-preserved : goal.loop-i-preserved
 loop-i-preserved c =

@@ -8,15 +8,15 @@ use Rattle.text.proofs.Fields.{bits_up, bits_down}
 use Rattle.text.proofs.line.put_bits.Goals as goal
 
 pub put_field-requires : goal.put_field-requires
-put_field-requires c = (c.requires.0, rw (bits_up c.args.bits c.if-bits-lt2147483648.true) at c.requires.1)
+put_field-requires c = rw (bits_up c.args.bits c.if-bits-lt2147483648.true) at c.requires
 
 pub put_byte-k-requires : goal.put_byte-k-requires
-put_byte-k-requires c = let p = rw (bits_down c.args.bits (omega arith) c.if-bits-lt2147483648.false) at c.requires.1 in omega (arith, p.room)
+put_byte-k-requires c = let p = rw (bits_down c.args.bits (omega arith) c.if-bits-lt2147483648.false) at c.requires in omega (arith, p.room)
 
 pub put_field-requires-else-bits-lt2147483648 : goal.put_field-requires-else-bits-lt2147483648
 put_field-requires-else-bits-lt2147483648 c =
-    let p = rw (bits_down c.args.bits (omega arith) c.if-bits-lt2147483648.false) at c.requires.1 in
-    (c.requires.0, room_rest (decimal (4294967296 - c.args.bits) ++ 32 ∷ []) c.put_byte-k.ensures p)
+    let p = rw (bits_down c.args.bits (omega arith) c.if-bits-lt2147483648.false) at c.requires in
+    room_rest (decimal (4294967296 - c.args.bits) ++ 32 ∷ []) c.put_byte-k.ensures p
 
 pub returns-then-bits-lt2147483648 : goal.returns-then-bits-lt2147483648
 returns-then-bits-lt2147483648 c = rw (bits_up c.args.bits c.if-bits-lt2147483648.true) c.put_field.ensures

@@ -27,7 +27,7 @@ unfolding decode_token
 put_small-iteration-requires c =
     let l = c.args.s.now in
     let t = decode_token l in
-    (omega (arith, c.shared_slice_known-2-1.given 16), c.requires.1, field_room (decimal t.tag.instruction) (port t) (decimal t.tag.iteration) c.requires.2)
+    (omega (arith, c.shared_slice_known-2-1.given 16), field_room (decimal t.tag.instruction) (port t) (decimal t.tag.iteration) c.requires.1)
 
 pub u16_at-requires : goal.u16_at-requires
 unfolding decode_token
@@ -43,7 +43,7 @@ put_field-instruction-requires c =
     let l = c.args.s.now in
     let t = decode_token l in
     let first = c.put_small-iteration.ensures in
-    (c.requires.1, rw c.u16_at.ensures (field_room (decimal t.port) (value t) (decimal t.tag.instruction) (after_iteration t c.requires.2 first)))
+    rw c.u16_at.ensures (field_room (decimal t.port) (value t) (decimal t.tag.instruction) (after_iteration t c.requires.1 first))
 
 pub bounds-s-17 : goal.bounds-s-17
 unfolding decode_token
@@ -61,7 +61,7 @@ put_small-port-requires c =
     let v = signed_decimal (value_in t.content) in
     let first = c.put_small-iteration.ensures in
     let pf = rw c.u16_at.ensures at c.put_field-instruction.ensures in
-    (omega (arith, c.shared_slice_known-3-1.given 17), c.requires.1, field_room v (word t) (decimal t.port) (after_instruction t c.requires.2 first pf))
+    (omega (arith, c.shared_slice_known-3-1.given 17), field_room v (word t) (decimal t.port) (after_instruction t c.requires.1 first pf))
 
 pub put_bits-value-requires : goal.put_bits-value-requires
 unfolding decode_token
@@ -73,7 +73,7 @@ put_bits-value-requires c =
     let first = c.put_small-iteration.ensures in
     let pf = rw c.u16_at.ensures at c.put_field-instruction.ensures in
     let third = c.put_small-port.ensures in
-    (c.requires.1, rw (u, ← value_of (number32 l 20) (byte_at l 24)) (field_room (state_word t.content) [] v (after_port t c.requires.2 first pf third)))
+    rw (u, ← value_of (number32 l 20) (byte_at l 24)) (field_room (state_word t.content) [] v (after_port t c.requires.1 first pf third))
 
 pub bounds-s-24 : goal.bounds-s-24
 unfolding decode_token
@@ -89,7 +89,7 @@ put_state_of-requires c =
     let pf = rw c.u16_at.ensures at c.put_field-instruction.ensures in
     let third = c.put_small-port.ensures in
     let pb = rw (u, ← value_of (number32 l 20) (byte_at l 24)) at c.put_bits-value.ensures in
-    rw u (after_value t c.requires.2 first pf third pb)
+    rw u (after_value t c.requires.1 first pf third pb)
 
 pub shape_of-out : goal.shape_of-out
 unfolding decode_token
