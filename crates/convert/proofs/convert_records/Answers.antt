@@ -16,7 +16,7 @@ accepts-requires c = search rules
 
 pub put_records-requires : goal.put_records-requires
 unfolding convert_result converted_out convert_accepted
-put_records-requires c = let e = sym c.accepts.ensures ∙ c.if-accepts.true in record { rest_bound = c.requires; out_len = eqb-true _ _ (both (whole (8 + c.args.rest) most_tokens (length c.args.old.now)) _ e).1 }
+put_records-requires c = let e = sym c.accepts.ensures ∙ c.if-accepts.true in eqb-true _ _ (both (whole (8 + c.args.layout.rest) most_tokens (length c.args.old.now)) _ e).1
 
 pub shape_of-out : goal.shape_of-out
 unfolding convert_result converted_out convert_accepted
