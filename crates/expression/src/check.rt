@@ -4,7 +4,7 @@ ghost use Rattle.record.specs.ExpressionRecords.{expression_of};
 ghost use Rattle.rules.specs.Expression.{most_terms, is_expression_length, good_term, check_expression, check_made, check_values, check_good_terms, check_named};
 ghost use Rattle.expression.specs.Tables.{MarkedNamed, NamesInside};
 
-use crate::numbers;
+use crate::{kind, numbers};
 use record::term::Term;
 use record::{instruction, term};
 use rules::answer::{Fault, Refusal};
@@ -28,12 +28,11 @@ fn good_term(named: &[bool; MOST], i: usize, t: Term) -> bool
     if t.zeros != 0 {
         return false;
     }
-    if t.kind == 0 {
+    if kind::is_variable(t) {
         return left == 0 && right == 0;
     }
-    16 <= t.kind
-        && (t.kind <= 23
-            && (left < i && (right < i && (left != right && (!named[left] && !named[right])))))
+    kind::operation_of(t).is_some()
+        && (left < i && (right < i && (left != right && (!named[left] && !named[right]))))
 }
 
 // Adds what a record names to the table.
@@ -41,7 +40,7 @@ fn mark(named: &mut [bool; MOST], t: Term)
     requires { NamesInside t }
     ensures { (ts : List Term) → MarkedNamed ts named.old → MarkedNamed (ts ++ t ∷ []) named.new }
 {
-    if t.kind == 0 {
+    if kind::is_variable(t) {
         return;
     }
     let left = t.left as usize;

@@ -6,6 +6,7 @@ ghost use Rattle.rules.specs.Expression.{is_variable, count, check_expression};
 ghost use Rattle.expression.specs.Tables.{NumberedRecords};
 
 use crate::check::MOST;
+use crate::kind;
 use record::term;
 use record::term::Term;
 
@@ -13,7 +14,7 @@ use record::term::Term;
 fn variable_of(t: Term) -> usize
     ensures { (result ≡ count is_variable (t ∷ [])) × (result ≤ 1) }
 {
-    if t.kind == 0 { 1 } else { 0 }
+    usize::from(kind::is_variable(t))
 }
 
 // How many variables there are.
@@ -32,7 +33,7 @@ fn number_of(t: Term, before: usize, i: usize, n: usize) -> usize
     requires { (before ≤ i) × (n + i ≤ 200) }
     ensures { (result ≡ cond (is_variable t) before (n + (i - before))) × (result ≤ n + i) }
 {
-    if t.kind == 0 {
+    if kind::is_variable(t) {
         before
     } else {
         n + (i - before)

@@ -1,10 +1,9 @@
 -- `expression::put::put`, which calls itself, meets its contract. Assumes nothing.
 use Prim.Native.Nat.{ℕ, ◌<◌}
 use native.Mathlib.Omega.{arith}
-use mathlib.Core.Path.{ap, ◌∙◌}
+use mathlib.Core.Path.{ap, ◌∙◌, sym}
 use mathlib.Core.List.{List}
 use lib.ListN.{length}
-use borrow.Author.Tests.{eq-eqb, ne_eqb}
 use Rattle.record.specs.ExpressionRecords.{expression_of}
 use Rattle.rules.specs.Expression.{sending}
 use Rattle.expression.specs.Tables.{NumberedRecords}
@@ -27,19 +26,19 @@ put_instruction-requires t c =
     let room = c.requires.2 in
     omega arith
 
-pub returns-then-t-eq0 : goal.returns-then-t-eq0
-returns-then-t-eq0 t c g rest size is =
+pub returns-then-is_variable : goal.returns-then-is_variable
+returns-then-is_variable t c g rest size is =
     let a = c.args in
     let x = c.term_at-t.result in
     let told = c.term_at-t.ensures in
     let own =
     puts_own c.requires.0 a.i c.requires.1 x told a.to g size rest a.graph.now c.put_instruction.new.graph is
-    c.instruction_of-r.result (c.instruction_of-r.ensures ∙ ap (λ (k : ℕ). sending k a.to) c.code_of.ensures) c.put_instruction.ensures.0 in
-    puts_variable c.requires.0 a.i c.requires.1 x told a.to g size rest a.graph.now _ is (eq-eqb _ 0 c.if-t-eq0.true) own
+    c.sending-r.result (c.sending-r.ensures ∙ ap (λ (k : ℕ). sending k a.to) c.code_of.ensures) c.put_instruction.ensures.0 in
+    puts_variable c.requires.0 a.i c.requires.1 x told a.to g size rest a.graph.now _ is (sym c.is_variable.ensures ∙ c.if-is_variable.true) own
 
 pub put-requires : goal.put-requires
 put-requires t c =
-    let before = (names_before c.requires.0 c.args.i c.requires.1 c.term_at-t.result c.term_at-t.ensures (ne_eqb c.term_at-t.result.kind 0 c.if-t-eq0.false)).0 in
+    let before = (names_before c.requires.0 c.args.i c.requires.1 c.term_at-t.result c.term_at-t.ensures (sym c.is_variable.ensures ∙ c.if-is_variable.false)).0 in
     let i = c.decreases in
     let low = c.requires.1 in
     let room = c.requires.2 in
@@ -48,7 +47,7 @@ put-requires t c =
 
 pub put-requires-2 : goal.put-requires-2
 put-requires-2 t c =
-    let before = (names_before c.requires.0 c.args.i c.requires.1 c.term_at-t.result c.term_at-t.ensures (ne_eqb c.term_at-t.result.kind 0 c.if-t-eq0.false)).1 in
+    let before = (names_before c.requires.0 c.args.i c.requires.1 c.term_at-t.result c.term_at-t.ensures (sym c.is_variable.ensures ∙ c.if-is_variable.false)).1 in
     let i = c.decreases in
     let low = c.requires.1 in
     let room = c.requires.2 in
@@ -63,10 +62,10 @@ returns t c g rest size is =
     let low = c.requires.1 in
     let x = c.term_at-t.result in
     let told = c.term_at-t.ensures in
-    let v = ne_eqb x.kind 0 c.if-t-eq0.false in
+    let v = sym c.is_variable.ensures ∙ c.if-is_variable.false in
     let own =
     puts_own h a.i low x told a.to g size rest a.graph.now c.put_instruction.new.graph is
-    c.instruction_of-r.result (c.instruction_of-r.ensures ∙ ap (λ (k : ℕ). sending k a.to) c.code_of.ensures) c.put_instruction.ensures.0 in
+    c.sending-r.result (c.sending-r.ensures ∙ ap (λ (k : ℕ). sending k a.to) c.code_of.ensures) c.put_instruction.ensures.0 in
     let lefts = c.put.ensures _ rest (length_own h a.i low x told a.to g size rest a.graph.now a.graph.now is) own in
     let rights = c.put-2.ensures _ rest (length_lefts h a.i low x told a.to g size rest a.graph.now a.graph.now is) lefts in
     puts_operation h a.i low x told a.to g size rest a.graph.now c.put-2.new.graph is v rights

@@ -47,6 +47,6 @@ returns c =
     let g = c.args.graph.now in
     let (ok, room) = passed_made s (length g) c.requires in
     let bytes : Bytes g = λ k. (c.slice_known-1.given k).fits in
-    let outs = out_put s ok g bytes room c.put_instruction.new.graph _ (sym (length_terms s)) c.instruction_of.result c.instruction_of.ensures c.put_instruction.ensures.0 in
+    let outs = out_put s ok g bytes room c.put_instruction.new.graph _ (sym (length_terms s)) c.out.result c.out.ensures c.put_instruction.ensures.0 in
     whole_graph s ok g bytes room c.put.new.graph _ (sym (length_terms s))
     (c.put.ensures _ (behind s ok g bytes room) (length-set (lent_graph s ok g bytes room) (out_for (expression_of s)) out ∙ length_lent s ok g bytes room) outs)
