@@ -17,8 +17,8 @@ fn at_most(graph: &[u8], inputs: &[u8]) -> Needs
     requires { check_needs graph.now inputs.now ≡ Ok tt }
     ensures { Ok result ≡ needs graph.now inputs.now }
 {
-    let mut sent = reach::given(inputs);
-    let reached = reach::reach(graph, &mut sent);
+    let sent = reach::given(inputs);
+    let reached = reach::reach(graph, sent);
     let totals = count::total(graph, &reached);
     Needs {
         firings: totals.firings,

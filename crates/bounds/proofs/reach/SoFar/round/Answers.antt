@@ -1,4 +1,4 @@
--- `bounds::reach::round` meets its contract. The invariant: the round came to instruction i. Assumes nothing.
+-- `bounds::reach::SoFar::round` meets its contract. The invariant: the round came to instruction i. Assumes nothing.
 use native.Mathlib.Omega.{arith}
 use mathlib.Core.Path.{◌≡◌, refl}
 use mathlib.Core.Bool.{true, or-false}
@@ -7,8 +7,8 @@ use Rattle.record.specs.GraphRecords.{graph_of}
 use Rattle.rules.proofs.Lists.{or_right}
 use Rattle.check_fields.proofs.Graphs.{length_graph}
 use Rattle.bounds.proofs.Rounds.{begin}
-use Rattle.bounds.proofs.reach.round.Goals as goal
-use Rattle.bounds.proofs.reach.round.Goals.{then-add, else-add}
+use Rattle.bounds.proofs.reach.SoFar.round.Goals as goal
+use Rattle.bounds.proofs.reach.SoFar.round.Goals.{then-add, else-add}
 
 pub loop-i-init : goal.loop-i-init
 loop-i-init c = (omega arith, λ ts k. begin ts (graph_of c.args.graph.now) k)

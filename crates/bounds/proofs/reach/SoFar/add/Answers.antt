@@ -1,4 +1,4 @@
--- `bounds::reach::add` meets its contract: a round that came to instruction i comes to the next. Assumes nothing.
+-- `bounds::reach::SoFar::add` meets its contract: a round that came to instruction i comes to the next. Assumes nothing.
 use Rattle.std.proofs.Common.{Ok}
 use Prim.Native.Nat.{ℕ, ◌/◌, ◌≤◌, ◌<◌}
 use native.Mathlib.Omega.{arith}
@@ -16,7 +16,7 @@ use Rattle.check_fields.proofs.Graphs.{length_graph, at_graph}
 use Rattle.checks.proofs.Passed.{passed_length, passed_at}
 use Rattle.bounds.proofs.Ports.{destinations_inside}
 use Rattle.bounds.proofs.Rounds.{is_ready, leave, take_in}
-use Rattle.bounds.proofs.reach.add.Goals as goal
+use Rattle.bounds.proofs.reach.SoFar.add.Goals as goal
 
 module _ (graph : List ℕ) (i : ℕ) (passed : check_graph graph ≡ Ok tt) (h : i < length graph / graph_width) where
   within : i < length (graph_of graph)
@@ -29,11 +29,11 @@ module _ (graph : List ℕ) (i : ℕ) (passed : check_graph graph ≡ Ok tt) (h 
   unfolding operands_at
   known = leb-true _ _ (passed_at graph passed i within).known
 
-pub bounds-reached-i : goal.bounds-reached-i
-bounds-reached-i c = let p = c.requires in low c.args.graph.now c.args.i p.0 p.1
+pub bounds-self-i : goal.bounds-self-i
+bounds-self-i c = let p = c.requires in low c.args.graph.now c.args.i p.0 p.1
 
-pub returns-then-reached-i : goal.returns-then-reached-i
-returns-then-reached-i c = λ ts before added r. rw (or-false added) (leave ts (graph_of c.args.graph.now) r (λ e. c.if-reached-i.true))
+pub returns-then-self-i : goal.returns-then-self-i
+returns-then-self-i c = λ ts before added r. rw (or-false added) (leave ts (graph_of c.args.graph.now) r (λ e. c.if-self-i.true))
 
 pub ready-requires : goal.ready-requires
 ready-requires c =
@@ -48,8 +48,8 @@ returns-then-not-ready c = λ ts before added r.
     let g = graph_of a.graph.now in
     rw (or-false added) (leave ts g r (λ e. false_true (sym (c.if-not-ready.true) ∙ c.ready.ensures ∙ is_ready ts g r.kept a.i (low a.graph.now a.i p.0 p.1) ∙ e)))
 
-pub bounds-reached-i-2 : goal.bounds-reached-i-2
-bounds-reached-i-2 c = let p = c.requires in low c.args.graph.now c.args.i p.0 p.1
+pub bounds-self-i-2 : goal.bounds-self-i-2
+bounds-self-i-2 c = let p = c.requires in low c.args.graph.now c.args.i p.0 p.1
 
 pub instruction_at-requires : goal.instruction_at-requires
 instruction_at-requires c = c.requires.1
@@ -70,4 +70,4 @@ returns c = λ ts before added r.
     let l = low s a.i p.0 p.1 in
     let own = c.instruction_at.ensures ∙ sym (at_graph s a.i p.1) in
     let ready = sym (is_ready ts g r.kept a.i l) ∙ sym c.ready.ensures ∙ c.if-not-ready.false in
-    rw (or_right added true refl, c.send.ensures, own) (take_in ts g r w l c.if-reached-i.false ready (destinations_inside s p.0 a.i w))
+    rw (or_right added true refl, c.send.ensures, own) (take_in ts g r w l c.if-self-i.false ready (destinations_inside s p.0 a.i w))
