@@ -27,23 +27,20 @@ fn proper(tables: &Tables, t: Token) -> bool
     }
 }
 
-// The same of record i of a ledger. Most tokens at a run's end are spent: of these the state alone is read.
-pub fn proper_at(tables: &Tables, ledger: &[u8], i: usize) -> bool
-    requires { i < length ledger.now / token_width }
-    ensures { result ≡ proper_by tables.now (token_at ledger.now i) }
-{
-    if ledger[i * token::WIDTH + token::STATE] == 1 {
-        return true;
-    }
-    proper(tables, token::token_at(ledger, i))
-}
-
 // Whether the token of record i of a ledger is spent.
 fn spent_at(ledger: &[u8], i: usize) -> bool
     requires { i < length ledger.now / token_width }
     ensures { result ≡ state_spent ledger.now i }
 {
     ledger[i * token::WIDTH + token::STATE] == 1
+}
+
+// Whether a completed run may leave record i of a ledger. Most tokens at a run's end are spent: of these the state alone is read.
+pub fn proper_at(tables: &Tables, ledger: &[u8], i: usize) -> bool
+    requires { i < length ledger.now / token_width }
+    ensures { result ≡ proper_by tables.now (token_at ledger.now i) }
+{
+    spent_at(ledger, i) || proper(tables, token::token_at(ledger, i))
 }
 
 // Whether there are four records before record i of a ledger, and they are spent.
