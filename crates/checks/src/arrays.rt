@@ -13,6 +13,7 @@ use record::{array, instruction, operation};
 use rules::answer::{Fault, Refusal};
 
 // Whether an array from a first cell on, of this length, ends in the store.
+#[tactic(auto, unfolding(rules::specs::Check::inside_store))]
 fn ends_inside(first: u16, length: u16, cells: usize) -> bool
     ensures { result ≡ inside_store cells (record { first = first; length = length }) }
 {
