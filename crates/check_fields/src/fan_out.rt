@@ -9,6 +9,7 @@ use record::instruction::{Destination, Instruction};
 use record::operation;
 use record::operation::Operation;
 
+// A `match` here gives what an operation has, as a row of 01's table does, and chooses no step.
 fn least(operation: Operation) -> u8
     ensures { (code : ℕ) → operation_of code ≡ operation → result ≡ (row_of code).least_fan_out }
 {
