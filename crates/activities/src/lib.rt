@@ -13,7 +13,10 @@ ghost use Rattle.abstraction.specs.States.{state_held};
 ghost use Rattle.activities.specs.Counts.{count_lent_checked, counted, counts};
 ghost use Rattle.activities.specs.Ready.{LentToCount, ReadyToCount};
 
-use checks::{bound, graph, stores};
+use checks::bound::Bounded;
+use checks::graph;
+use checks::lent::Lent;
+use checks::stores::Stores;
 use rules::answer::{Fault, Refusal};
 use store_enabled::Tables;
 use store_flags::{Flags, Free};
@@ -30,7 +33,17 @@ fn check_lent(graph: &[u8], bound: usize, ledger: usize, cells: usize) -> Result
     ensures { result ≡ count_lent_checked graph.now bound ledger cells }
 {
     graph::check(graph)?;
-    bound::check(stores::check(0, 0, ledger, cells), bound)
+    let stores = Stores {
+        inputs: 0,
+        picks: 0,
+        ledger,
+        cells,
+    };
+    Bounded {
+        lent: stores,
+        bound,
+    }
+    .check()
 }
 
 // The number of enabled activities that a bound does not hold back.

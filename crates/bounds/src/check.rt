@@ -4,7 +4,9 @@ ghost use Rattle.record.specs.GraphRecords.{graph_of};
 ghost use Rattle.rules.specs.Check.{demand, in_turn};
 ghost use Rattle.rules.specs.Needs.{loop_free, check_needs};
 
-use checks::{graph, stores};
+use checks::graph;
+use checks::lent::Lent;
+use checks::stores::Stores;
 use record::instruction;
 use record::instruction::Instruction;
 use rules::answer::{Fault, Refusal};
@@ -32,7 +34,13 @@ pub fn check(graph: &[u8], inputs: &[u8]) -> Result<(), Fault>
     ensures { result ≡ check_needs graph.now inputs.now }
 {
     graph::check(graph)?;
-    stores::check(inputs.len(), 0, 0, 0)?;
+    let stores = Stores {
+        inputs: inputs.len(),
+        picks: 0,
+        ledger: 0,
+        cells: 0,
+    };
+    stores.check()?;
     check_inputs::fields(graph, inputs)?;
     loop_free(graph)
 }

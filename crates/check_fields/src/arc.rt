@@ -29,14 +29,9 @@ fn good(counts: &OperandCounts, graph: &[u8], d: Destination) -> bool
 pub fn all_good(counts: &OperandCounts, graph: &[u8], r: Instruction) -> bool
     ensures { result ≡ all (good_arc (graph_of graph.now)) (destinations r) }
 {
-    let fan_out = r.fanout;
-    let first = r.first;
-    let second = r.second;
-    if fan_out == 0 {
-        return true;
+    match r.fanout {
+        0 => true,
+        1 => good(counts, graph, r.first),
+        _ => good(counts, graph, r.first) && good(counts, graph, r.second),
     }
-    if fan_out == 1 {
-        return good(counts, graph, first);
-    }
-    good(counts, graph, first) && good(counts, graph, second)
 }

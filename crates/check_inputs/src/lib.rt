@@ -69,27 +69,27 @@ fn entry(t: Token) -> usize
 }
 
 // Whether input i is a second token, where `mark` is the entry of the table of `second`.
-fn is_second(inputs: &[u8], i: usize, t: Token, mark: u8) -> bool
-    requires { (i ≤ length inputs.now / token_width) × (mark ≡ 0 → second_input (take i (input_tokens inputs.now)) t ≡ false) }
+fn is_second(inputs: &[u8], i: usize, t: Token, mark: bool) -> bool
+    requires { (i ≤ length inputs.now / token_width) × (mark ≡ false → second_input (take i (input_tokens inputs.now)) t ≡ false) }
     ensures { result ≡ second_input (take i (input_tokens inputs.now)) t }
 {
     let tag = t.tag;
-    mark != 0 && taken(inputs, i, tag, t.port)
+    mark && taken(inputs, i, tag, t.port)
 }
 
-// 9, by input in turn, against the inputs before it. An entry of `seen` is 0 where no token stands yet, so that the inputs
-// before are looked through only where the entry is taken.
+// 9, by input in turn, against the inputs before it. `seen` marks the entries where a token stands, so that the inputs before are
+// looked through only there.
 fn second(inputs: &[u8]) -> Result<(), Fault>
     ensures { result ≡ check_second inputs.now }
 {
-    let mut seen = [0u8; 512];
+    let mut seen = [false; 512];
     for i in 0..inputs.len() / token::WIDTH {
         let t = token::token_at(inputs, i);
         let at = entry(t);
         if is_second(inputs, i, t, seen[at]) {
             return Err(Refusal::SecondToken.at(i));
         }
-        seen[at] = 1;
+        seen[at] = true;
     }
     Ok(())
 }

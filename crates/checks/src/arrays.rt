@@ -9,10 +9,11 @@ ghost use Rattle.rules.specs.Check.{demand, all, in_turn, inside_store, names_go
 use check_fields::constant;
 use record::array::NamedArray;
 use record::instruction::Instruction;
-use record::{array, instruction};
+use record::{array, instruction, operation};
 use rules::answer::{Fault, Refusal};
 
 // Whether an array from a first cell on, of this length, ends in the store.
+#[tactic(auto, unfolding(rules::specs::Check::inside_store))]
 fn ends_inside(first: u16, length: u16, cells: usize) -> bool
     ensures { result ≡ inside_store cells (record { first = first; length = length }) }
 {
@@ -49,7 +50,13 @@ fn names_good(n: usize, r: Instruction) -> bool
     requires { n < 256 }
     ensures { result ≡ names_good n r }
 {
-    !constant::names_array(r.code) || constant::small(r.constant) <= n
+    if !constant::names_array(operation::decode(r.code)) {
+        return true;
+    }
+    match constant::small(r.constant) {
+        Some(k) => k as usize <= n,
+        None => false,
+    }
 }
 
 // The instructions in turn, by the number of arrays.

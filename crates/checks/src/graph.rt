@@ -4,7 +4,8 @@ ghost use Rattle.record.specs.GraphRecords.{is_graph_length, graph_of};
 ghost use Rattle.rules.specs.Check.{demand, ◌and_then◌, in_turn, check_record, check_graph};
 ghost use Rattle.check_fields.specs.Sites.{Sites};
 
-use check_fields::{arc, fan_out, site};
+use check_fields::site::Entered;
+use check_fields::{arc, fan_out};
 use record::instruction;
 use record::instruction::Instruction;
 use record::operation::OperandCounts;
@@ -33,7 +34,7 @@ fn first_fault(i: usize, known: bool, fields: bool, arcs: bool, site: bool) -> R
 fn record(
     counts: &OperandCounts,
     graph: &[u8],
-    sites: &[u32; 256],
+    sites: &Entered,
     i: usize,
     r: Instruction,
 ) -> Result<(), Fault>
@@ -43,7 +44,7 @@ fn record(
     let known = 1 <= counts.of(r.code);
     let fields = fan_out::good(r);
     let arcs = arc::all_good(counts, graph, r);
-    let site = site::good(sites, r);
+    let site = sites.good(r);
     first_fault(i, known, fields, arcs, site)
 }
 
@@ -52,11 +53,11 @@ fn records(graph: &[u8]) -> Result<(), Fault>
     ensures { result ≡ in_turn (check_record (graph_of graph.now)) 0 (graph_of graph.now) }
 {
     let counts = OperandCounts::new();
-    let mut sites = [0u32; 256];
+    let mut sites = Entered::none();
     for i in 0..graph.len() / instruction::WIDTH {
         let r = instruction::instruction_at(graph, i);
         record(&counts, graph, &sites, i, r)?;
-        site::note(&mut sites, r);
+        sites.note(r);
     }
     Ok(())
 }

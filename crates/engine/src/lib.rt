@@ -18,7 +18,9 @@ ghost use Rattle.engine.specs.Resumed.{resume_lent_checked, LentToResume, resume
 ghost use Rattle.engine.specs.Turns.{recorded, end_bounded, fired_bounded, end_from_inputs, fired_from_inputs};
 
 use crate::turns::Going;
-use checks::{bound, graph, stores};
+use checks::bound::Bounded;
+use checks::graph;
+use checks::stores::{Logged, Stores};
 use record::cell;
 use rules::answer;
 use rules::answer::{Answer, Fault, Refusal};
@@ -115,8 +117,17 @@ fn check_lent(
 ) -> Result<(), Fault>
     ensures { result ≡ resume_lent_checked graph.now arrays.now picks bound ledger cells }
 {
-    let of_stores = bound::check(stores::check(0, picks, ledger, cells), bound);
-    checks::check_lent(graph, arrays, of_stores, cells / cell::WIDTH)
+    let stores = Stores {
+        inputs: 0,
+        picks,
+        ledger,
+        cells,
+    };
+    let lent = Bounded {
+        lent: stores,
+        bound,
+    };
+    checks::check_lent(graph, arrays, &lent, cells / cell::WIDTH)
 }
 
 // 02, R-13: a saved state is taken, and the run goes on from it; or it is refused by 24.
@@ -184,7 +195,17 @@ pub fn run(
         (lent_to_run picks.now ledger.old cells.old) (left_by_run result ledger.new cells.new) }
 {
     let k = bound as usize;
-    let checked = checks::check_bounded(graph, arrays, inputs, picks, k, ledger.len(), cells.len());
+    let stores = Stores {
+        inputs: inputs.len(),
+        picks: picks.len(),
+        ledger: ledger.len(),
+        cells: cells.len(),
+    };
+    let lent = Bounded {
+        lent: stores,
+        bound: k,
+    };
+    let checked = checks::check_with(graph, arrays, &lent, inputs, ledger.len(), cells.len());
     match checked {
         Err(fault) => answer::refused(fault),
         Ok(()) => {
@@ -222,17 +243,22 @@ pub fn run_logged(
 {
     let firings = budget as usize;
     let k = bound as usize;
-    let checked = checks::check_logged(
-        graph,
-        arrays,
-        inputs,
-        picks,
-        firings,
-        k,
-        ledger.len(),
-        cells.len(),
-        log.len(),
-    );
+    let stores = Stores {
+        inputs: inputs.len(),
+        picks: picks.len(),
+        ledger: ledger.len(),
+        cells: cells.len(),
+    };
+    let logged = Logged {
+        stores,
+        budget: firings,
+        log: log.len(),
+    };
+    let bounded = Bounded {
+        lent: logged,
+        bound: k,
+    };
+    let checked = checks::check_with(graph, arrays, &bounded, inputs, ledger.len(), cells.len());
     match checked {
         Err(fault) => answer::refused(fault),
         Ok(()) => accepted(graph, arrays, inputs, picks, firings, k, ledger, cells, log),

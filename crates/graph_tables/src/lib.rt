@@ -13,10 +13,10 @@ ghost use Rattle.check_fields.specs.Sites.{at_site};
 ghost use Rattle.rules.specs.Check.{check_graph};
 ghost use Rattle.abstraction.specs.Tables.{Arities, Returns, arrays_in, TablesOf};
 
-use check_fields::constant;
+use check_fields::site;
 use record::instruction::Instruction;
-use record::operation::OperandCounts;
-use record::{array, instruction};
+use record::operation::{OperandCounts, Operation};
+use record::{array, instruction, operation};
 use store_enabled::Tables;
 
 // The entry of instruction i, which says for each of its activities how many operands that waits for.
@@ -25,9 +25,9 @@ fn entry_at(counts: &OperandCounts, graph: &[u8], i: usize) -> u16
 {
     if i < graph.len() / instruction::WIDTH {
         let code = graph[i * instruction::WIDTH];
-        match code {
-            3 => 0,
-            9 => store_enabled::LEAVE_ENTRY,
+        match operation::decode(code) {
+            Operation::Out => 0,
+            Operation::Leave => store_enabled::LEAVE_ENTRY,
             _ => counts.of(code) as u16,
         }
     } else {
@@ -51,13 +51,8 @@ fn arities(graph: &[u8], out: &mut Tables)
 fn note(out: &mut Tables, r: Instruction)
     ensures { out.new ≡ at_site out.old r r.second.instruction }
 {
-    let back = r.second;
-    if r.code != 8 {
-        return;
-    }
-    let site = constant::small(r.constant);
-    if site < 256 {
-        out[site] = back.instruction;
+    if let Some(site) = site::site_of(r) {
+        out[site as usize] = r.second.instruction;
     }
 }
 

@@ -18,7 +18,8 @@ ghost use Rattle.fire.specs.Running.{Prepared, Running};
 ghost use Rattle.start.specs.Begun.{machine_lent};
 ghost use Rattle.profile.specs.Steps.{OneOrTwo, PlacesIn, unspent_at, profile_from, LastAs, FiredAs, StepDone, ProfiledTo};
 
-use checks::stores;
+use checks::lent::Lent;
+use checks::stores::Stores;
 use record::token;
 use rules::answer::{Answer, Fault, Outcome, Profiled, Refusal};
 use store_chains::Links;
@@ -58,7 +59,13 @@ pub struct Progress {
 fn check_stores(inputs: usize, ledger: usize, cells: usize, profile: usize) -> Result<(), Fault>
     ensures { result ≡ check_profile_stores inputs ledger cells profile }
 {
-    stores::check(inputs, 0, ledger, cells)?;
+    let stores = Stores {
+        inputs,
+        picks: 0,
+        ledger,
+        cells,
+    };
+    stores.check()?;
     if profile % WIDTH == 0 {
         Ok(())
     } else {
@@ -78,7 +85,7 @@ fn check(
     ensures { result ≡ check_profile graph.now arrays.now inputs.now ledger cells profile }
 {
     let of_stores = check_stores(inputs.len(), ledger, cells, profile);
-    checks::check_with(graph, arrays, of_stores, inputs, ledger, cells)
+    checks::check_with(graph, arrays, &of_stores, inputs, ledger, cells)
 }
 
 // The bytes of a step's record.

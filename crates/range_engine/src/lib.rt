@@ -16,7 +16,8 @@ ghost use Rattle.range_engine.specs.Promise.{lent_to_run, left_by_run, RangesOn}
 ghost use Rattle.range_engine.specs.Over.{Tells, Fits, AsManyHandles, own_bytes, store_bytes, Leaves, LentToRanges, with_inputs, ranges_lent_checked};
 
 use crate::turns::{Going, Ran};
-use checks::{bound, stores};
+use checks::bound::Bounded;
+use checks::stores;
 use record::{cell, token};
 use rules::answer;
 use rules::answer::{Answer, Fault, Refusal};
@@ -232,8 +233,11 @@ fn check_lent(
 ) -> Result<(), Fault>
     ensures { result ≡ ranges_lent_checked graph.now arrays.now inputs picks bound ledger cells }
 {
-    let of_stores = bound::check(check_stores(inputs, picks, ledger, cells), bound);
-    checks::check_lent(graph, arrays, of_stores, cells / range_output::CELL_WIDTH)
+    let lent = Bounded {
+        lent: check_stores(inputs, picks, ledger, cells),
+        bound,
+    };
+    checks::check_lent(graph, arrays, &lent, cells / range_output::CELL_WIDTH)
 }
 
 // A range run over lent bytes: its answer, and what it leaves in ledger and cells, are what the rules give. The bound is 0 for none.

@@ -12,6 +12,7 @@ ghost use Rattle.rules.specs.Runs.{ReplayedOn};
 ghost use Rattle.start.specs.Begun.{machine_lent};
 ghost use Rattle.start.specs.Ended.{EndedAt};
 
+use checks::stores::Stores;
 use engine::choice::Order;
 use engine::turns;
 use engine::turns::Going;
@@ -89,7 +90,13 @@ pub fn replay(
     ensures { ReplayedOn graph.now arrays.now inputs.now log.now ledger.old cells.old result
         ledger.new cells.new }
 {
-    let checked = checks::check(graph, arrays, inputs, &log[0..0], ledger.len(), cells.len());
+    let stores = Stores {
+        inputs: inputs.len(),
+        picks: 0,
+        ledger: ledger.len(),
+        cells: cells.len(),
+    };
+    let checked = checks::check_with(graph, arrays, &stores, inputs, ledger.len(), cells.len());
     match checked {
         Err(fault) => answer::refused(fault),
         Ok(()) => accepted(graph, arrays, inputs, log, ledger, cells),

@@ -19,7 +19,8 @@ ghost use Rattle.store.specs.Matching.{Matching};
 ghost use Rattle.fire.specs.Running.{Prepared, Running};
 ghost use Rattle.saved.specs.Passes.{EnteredSites, content_allowed, arrives_at, spent_found, spent_of_two, closes_at, first_spent, enters_all, is_waiting_record, CellBytes, cell_right};
 
-use check_fields::{arc, site};
+use check_fields::arc;
+use check_fields::site::Entered;
 use record::cell::Cell;
 use record::operation::OperandCounts;
 use record::tag::Tag;
@@ -32,18 +33,19 @@ use store_flags::Flags;
 // The most levels of calls.
 const LEVELS: usize = 8;
 
-// A table by site of the returns of ENTERs: 0 where no ENTER has the site.
-fn find_sites(graph: &[u8], sites: &mut [u32; 256])
-    ensures { EnteredSites (graph_of graph.now) sites.new }
+// The sites that an ENTER has.
+fn find_sites(graph: &[u8]) -> Entered
+    ensures { EnteredSites (graph_of graph.now) result }
 {
-    *sites = [0u32; 256];
+    let mut sites = Entered::none();
     for i in 0..graph.len() / instruction::WIDTH {
-        site::note(sites, instruction::instruction_at(graph, i));
+        sites.note(instruction::instruction_at(graph, i));
     }
+    sites
 }
 
 // Whether a path is made of sites that have an ENTER, with its levels unbroken: LEAVE finds one after the other.
-fn path_made(sites: &[u32; 256], tag: Tag) -> bool
+fn path_made(sites: &Entered, tag: Tag) -> bool
     ensures { (g : List Instruction) → EnteredSites g sites.now → result ≡ path_made g most_levels tag }
 {
     let mut at = tag;
@@ -51,7 +53,7 @@ fn path_made(sites: &[u32; 256], tag: Tag) -> bool
         let Some(caller) = at.leave() else {
             return true;
         };
-        if sites[caller.site as usize] == 0 {
+        if !sites.has(caller.site) {
             return false;
         }
         at = caller.tag;
@@ -100,7 +102,7 @@ fn token_allowed(graph: &[u8], tables: &Tables, s: &[u8]) -> bool
 fn arrives(
     graph: &[u8],
     tables: &Tables,
-    sites: &[u32; 256],
+    sites: &Entered,
     links: &Links,
     ledger: &[u8],
     count: usize,
@@ -174,7 +176,7 @@ fn first_spent(t: Token) -> bool
 fn enter(
     graph: &[u8],
     tables: &Tables,
-    sites: &[u32; 256],
+    sites: &Entered,
     links: &mut Links,
     flags: &mut Flags,
     ledger: &[u8],
@@ -272,8 +274,7 @@ pub fn take(
     if ledger.len() / token::WIDTH < used {
         return false;
     }
-    let mut sites = [0u32; 256];
-    find_sites(graph, &mut sites);
+    let sites = find_sites(graph);
     let count = cells.len() / cell::WIDTH;
     if !enter(
         graph, tables, &sites, links, flags, ledger, count, firings, used,

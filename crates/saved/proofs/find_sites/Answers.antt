@@ -13,7 +13,7 @@ use Rattle.saved.proofs.Laws.{no_sites, one_site}
 use Rattle.saved.proofs.find_sites.Goals as goal
 
 pub loop-i-init : goal.loop-i-init
-loop-i-init c = (omega arith, refl, no_sites)
+loop-i-init c = (omega arith, rw c.none-sites.ensures, rw c.none-sites.ensures no_sites)
 
 pub loop-i-preserved : goal.loop-i-preserved
 loop-i-preserved c =

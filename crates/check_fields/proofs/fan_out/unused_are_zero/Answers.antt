@@ -1,22 +1,9 @@
 -- `check_fields::fan_out::unused_are_zero` meets its contract. Assumes nothing.
-use borrow.Author.Rules.{rules}
 use mir.Facts.{to_z-of_z}
 use mir.Val.{SFits}
 use mir.Syntax.{w32}
 use Rattle.rules.specs.Check.{unused_are_zero}
 use Rattle.check_fields.proofs.fan_out.unused_are_zero.Goals as goal
-
-pub used_or_zero-requires : goal.used_or_zero-requires
-unfolding unused_are_zero
-used_or_zero-requires c = search rules
-
-pub used_or_zero-requires-then-used_or_zero : goal.used_or_zero-requires-then-used_or_zero
-unfolding unused_are_zero
-used_or_zero-requires-then-used_or_zero c = search rules
-
-pub constant_used_or_zero-requires : goal.constant_used_or_zero-requires
-unfolding unused_are_zero
-constant_used_or_zero-requires c = search rules
 
 pub returns-then-constant_used_or_zero : goal.returns-then-constant_used_or_zero
 unfolding unused_are_zero

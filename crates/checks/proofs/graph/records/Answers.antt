@@ -13,7 +13,7 @@ use Rattle.check_fields.proofs.Sites.{no_sites, note_sites, length_at_site}
 use Rattle.checks.proofs.graph.records.Goals as goal
 
 pub loop-i-init : goal.loop-i-init
-loop-i-init c = (omega arith, refl, no_sites, refl)
+loop-i-init c = (omega arith, refl, rw c.none-sites.ensures no_sites, rw c.none-sites.ensures)
 
 pub record-requires : goal.record-requires
 record-requires c = c.loop-i.invariant.2

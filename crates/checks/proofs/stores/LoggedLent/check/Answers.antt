@@ -1,8 +1,7 @@
--- `checks::stores::check_logged` meets its contract. Assumes nothing.
-use borrow.Author.Rules.{rules}
+-- `checks::stores::Logged::check` meets its contract. Assumes nothing.
 use Rattle.rules.specs.Log.{check_log_stores}
 use Rattle.check_fields.proofs.Turns.{handed_on}
-use Rattle.checks.proofs.stores.check_logged.Goals as goal
+use Rattle.checks.proofs.stores.LoggedLent.check.Goals as goal
 
 pub returns-in_err-check : goal.returns-in_err-check
 unfolding check_log_stores

@@ -1,11 +1,6 @@
--- `checks::stores::check` meets its contract. Assumes nothing.
-use borrow.Author.Rules.{rules}
+-- `checks::stores::Stores::check` meets its contract. Assumes nothing.
 use Rattle.rules.specs.Check.{check_stores}
-use Rattle.checks.proofs.stores.check.Goals as goal
-
-pub all_whole-requires : goal.all_whole-requires
-unfolding check_stores
-all_whole-requires c = search rules
+use Rattle.checks.proofs.stores.StoresLent.check.Goals as goal
 
 pub returns-then-all_whole : goal.returns-then-all_whole
 unfolding check_stores
