@@ -2,8 +2,8 @@
 -- as the machine's run over handles ends. What holds of ledger and cells whatever was fired is the engine's (`Underway`). Assumes nothing.
 use Rattle.std.specs.Prelude.{Result, Err}
 use Prim.Native.Nat.{ℕ, suc, ◌+◌, ◌-◌, ◌/◌, ◌≤◌, ◌<◌}
-use mathlib.Core.Path.{◌≡◌, refl, sym, ap, ◌∙◌}
-use mathlib.Core.List.{List, [], ◌++◌, append-nil}
+use mathlib.Core.Path.{◌≡◌, sym, ap, ◌∙◌}
+use mathlib.Core.List.{List, ◌++◌, append-nil}
 use native.Mathlib.Omega.{arith}
 use native.Mathlib.Numerals.{add-one}
 use lib.ListN.{length, length-append}
@@ -13,7 +13,6 @@ use Rattle.record.specs.declared.instruction.Instruction.{Instruction}
 use Rattle.record.specs.GraphRecords.{graph_of}
 use Rattle.record.specs.TokensAndTags.{tokens, token_at}
 use Rattle.record.specs.Widths.{token_width, cell_width}
-use Rattle.buffer.proofs.Tables.{length_rows}
 use Rattle.arithmetic.specs.declared.Range.{Range}
 use Rattle.machine.specs.Machine.{Machine, State, Activity, Outcome, commit, end}
 use Rattle.machine.specs.Choosers.{Chosen, takes, ends}
@@ -35,52 +34,47 @@ use Rattle.engine.specs.declared.turns.Fired.{Fired}
 use Rattle.engine.specs.Turns.{chooser_of, chooser_for, Holding, Followed, Turned, Advanced, Stops, by_choice, by_refusal, Halted}
 use Rattle.engine.proofs.Bounding.{fired_on}
 use Rattle.engine.proofs.Looping.{Underway, none_fired, as_lent, went_on, ends_here_lem, rests_here}
-use Rattle.range_table.specs.Table.{pair_width, pair_in, table_of}
-use Rattle.range_fire.specs.declared.Tried.{Tried}
-use Rattle.range_fire.specs.Tried.{RoomForOne, step_at, TriedAs}
-use Rattle.range_engine.specs.Over.{added_by, TakenAs, Room, end_over, RanOver}
-use Rattle.range_engine.proofs.Stepping.{fires_step, step_below, step_one, went_few}
+use Rattle.range_fire.specs.Tried.{step_at, TriedAs}
+use Rattle.range_engine.specs.Over.{added_by, TakenAs, end_over, RanOver}
+use Rattle.range_engine.proofs.Stepping.{fires_step, step_below, went_few}
 
 -- ---- a turn
 
 -- the chooser ended the run: nothing is added
-pub taken_ended : {g : List Instruction} {chosen : Chosen Refusal Tag} (steps : Tag → StepHere) {tables links flags ledger cells table : List ℕ} {used count : ℕ} {o : AnswerOutcome.Outcome} {e : Outcome Refusal} → chosen ≡ ends e
-    → Halted o g chosen (λ τ. (steps τ).asked) tables links flags ledger cells used ledger cells → TakenAs (record { turn = Err o; count = count }) g chosen steps tables links flags ledger cells table used ledger cells table count
-taken_ended steps {table = table} {count = count} h halted = record {
+pub taken_ended : {g : List Instruction} {chosen : Chosen Refusal Tag} (steps : Tag → StepHere) {tables links flags ledger cells : List ℕ} (table : List Range) {used : ℕ} {o : AnswerOutcome.Outcome} {e : Outcome Refusal} → chosen ≡ ends e
+    → Halted o g chosen (λ τ. (steps τ).asked) tables links flags ledger cells used ledger cells → TakenAs (Err o) g chosen steps tables links flags ledger cells table used ledger cells table
+taken_ended steps table h halted = record {
   turned = halted;
-  held = sym (append-nil (table_of count table)) ∙ ap (λ (y : Chosen Refusal Tag). table_of count table ++ added_by y steps) (sym h);
-  size = refl;
+  held = sym (append-nil table) ∙ ap (λ (y : Chosen Refusal Tag). table ++ added_by y steps) (sym h);
 }
 
 -- an activity was taken: what its step adds is added
-pub taken_fired : {g : List Instruction} {chosen : Chosen Refusal Tag} (steps : Tag → StepHere) (x : Result Fired AnswerOutcome.Outcome) {a : Activity Tag} → chosen ≡ takes a → {r : Tried} {tables links flags ledger' cells' table' : List ℕ} {used : ℕ} {ledger cells table : List ℕ} {count : ℕ}
-    → TriedAs r g a.tag (steps a.tag) tables links flags ledger' cells' table' used ledger cells table count → Turned x g chosen (λ τ. (steps τ).asked) tables links flags ledger' cells' used ledger cells
-    → TakenAs (record { turn = x; count = r.count }) g chosen steps tables links flags ledger' cells' table' used ledger cells table count
-taken_fired steps x h {table = table} {count = count} tried turned = record {
+pub taken_fired : {g : List Instruction} {chosen : Chosen Refusal Tag} (steps : Tag → StepHere) (x : Result Fired AnswerOutcome.Outcome) {a : Activity Tag} → chosen ≡ takes a → {r : Result ℕ Refusal} {tables links flags ledger' cells' : List ℕ} {table' : List Range} {used : ℕ} {ledger cells : List ℕ} {table : List Range}
+    → TriedAs r g a.tag (steps a.tag) tables links flags ledger' cells' table' used ledger cells table → Turned x g chosen (λ τ. (steps τ).asked) tables links flags ledger' cells' used ledger cells
+    → TakenAs x g chosen steps tables links flags ledger' cells' table' used ledger cells table
+taken_fired steps x h {table = table} tried turned = record {
   turned = turned;
-  held = tried.held ∙ ap (λ (y : Chosen Refusal Tag). table_of count table ++ added_by y steps) (sym h);
-  size = tried.size;
+  held = tried.held ∙ ap (λ (y : Chosen Refusal Tag). table ++ added_by y steps) (sym h);
 }
 
 -- ---- the loop
 
 -- after so many firings; t₀ are the ranges at the start
-pub record SoFar (g : List Instruction) (order : Order) (source ledger₀ cells₀ table₀ : List ℕ) (start budget : ℕ) (t₀ : List Range) (tables links flags ledger cells table : List ℕ) (used firings count : ℕ) : Type 0 where
+pub record SoFar (g : List Instruction) (order : Order) (source ledger₀ cells₀ : List ℕ) (start budget : ℕ) (t₀ : List Range) (tables links flags ledger cells : List ℕ) (t : List Range) (used firings : ℕ) : Type 0 where
   pub within : firings ≤ budget
   pub under : Underway g ledger₀ cells₀ start tables links flags ledger cells used
-  pub room : Room table count used
-  pub size : length table ≡ length table₀
+  -- a range of each token, and one for the value 0
+  pub few : length t ≤ used + 1
   -- the run that is left to do
   pub to_do : end_over order source g tables ledger₀ cells₀ start budget t₀
       ≡ run_on (range_machine_of g (arrays_in tables) (length ledger₀ / token_width) (length cells₀ / cell_width)) ℤ (effect_in g (arrays_in tables) (length cells₀ / cell_width)) (pos 0) (step_in g (arrays_in tables) (length cells₀ / cell_width))
-      (chooser_for order source g tables ledger₀ cells₀) (budget - firings) firings (table_of count table) (state_in ledger cells used)
+      (chooser_for order source g tables ledger₀ cells₀) (budget - firings) firings t (state_in ledger cells used)
 
 -- the ranges that were added are so many
-grown_count : (count count' : ℕ) (table table' : List ℕ) (added : List Range) → table_of count' table' ≡ table_of count table ++ added → count' ≡ count + length added
-grown_count count count' table table' added h =
-    sym (length_rows pair_width pair_in count' table') ∙ ap length h ∙ length-append (table_of count table) added ∙ ap (λ (n : ℕ). n + length added) (length_rows pair_width pair_in count table)
+grown_count : (t t' added : List Range) → t' ≡ t ++ added → length t' ≡ length t + length added
+grown_count t t' added h = ap length h ∙ length-append t added
 
-module _ (graph : List ℕ) (order : Order) (source ledger₀ cells₀ table₀ : List ℕ) (start budget : ℕ) (t₀ : List Range) (tables : List ℕ) where
+module _ (graph : List ℕ) (order : Order) (source ledger₀ cells₀ : List ℕ) (start budget : ℕ) (t₀ : List Range) (tables : List ℕ) where
   abbrev g : List Instruction
   g = graph_of graph
 
@@ -95,28 +89,24 @@ module _ (graph : List ℕ) (order : Order) (source ledger₀ cells₀ table₀ 
   runs b f t u = run_on (range_machine_of (graph_of graph) (arrays_in tables) (length ledger₀ / token_width) (length cells₀ / cell_width)) ℤ (effect_in (graph_of graph) (arrays_in tables) (length cells₀ / cell_width)) (pos 0)
       (step_in (graph_of graph) (arrays_in tables) (length cells₀ / cell_width)) (chooser_for order source (graph_of graph) tables ledger₀ cells₀) b f t u
 
-  pub begun : {links flags : List ℕ} {count : ℕ} → t₀ ≡ table_of count table₀ → Running (graph_of graph) tables links flags ledger₀ cells₀ start → Room table₀ count start
-      → SoFar (graph_of graph) order source ledger₀ cells₀ table₀ start budget t₀ tables links flags ledger₀ cells₀ table₀ start 0 count
-  begun {count = count} e r room = record {
+  pub begun : {links flags : List ℕ} → Running (graph_of graph) tables links flags ledger₀ cells₀ start → length t₀ ≤ start + 1
+      → SoFar (graph_of graph) order source ledger₀ cells₀ start budget t₀ tables links flags ledger₀ cells₀ t₀ start 0
+  begun r few = record {
     within = omega arith;
     under = none_fired (graph_of graph) ledger₀ cells₀ start tables r;
-    room = room;
-    size = refl;
-    to_do = λ i. runs (all_left i) 0 (e i) (state_in ledger₀ cells₀ start);
+    few = few;
+    to_do = λ i. runs (all_left i) 0 t₀ (state_in ledger₀ cells₀ start);
   }
     where
       all_left : budget ≡ budget - 0
       all_left = omega arith
 
-  module _ {links flags ledger cells table : List ℕ} {used firings count : ℕ} (so : SoFar (graph_of graph) order source ledger₀ cells₀ table₀ start budget t₀ tables links flags ledger cells table used firings count) where
+  module _ {links flags ledger cells : List ℕ} {t : List Range} {used firings : ℕ} (so : SoFar (graph_of graph) order source ledger₀ cells₀ start budget t₀ tables links flags ledger cells t used firings) where
     abbrev s : State Tag ℤ
     s = state_in ledger cells used
 
-    abbrev t : List Range
-    t = table_of count table
-
     abbrev steps : Tag → StepHere
-    steps = step_at (graph_of graph) tables ledger cells used (table_of count table)
+    steps = step_at (graph_of graph) tables ledger cells used t
 
     abbrev chosen : Chosen Refusal Tag
     chosen = chooser_for order source (graph_of graph) tables ledger cells firings (state_in ledger cells used)
@@ -127,8 +117,8 @@ module _ (graph : List ℕ) (order : Order) (source ledger₀ cells₀ table₀ 
     abbrev related : StepsRelated (range_machine_of (graph_of graph) (arrays_in tables) (length ledger₀ / token_width) (length cells₀ / cell_width)) ℤ (effect_in (graph_of graph) (arrays_in tables) (length cells₀ / cell_width)) (pos 0) (step_in (graph_of graph) (arrays_in tables) (length cells₀ / cell_width)) nat_abs
     related = steps_related (graph_of graph) (arrays_in tables) (length ledger₀ / token_width) (length cells₀ / cell_width)
 
-    pub room_for_one : RoomForOne table count
-    room_for_one = let few = matching_few so.under.running.matching in (omega (arith, so.room.pairs, so.room.few), omega (arith, so.room.few))
+    pub room_for_one : length t < 2050
+    room_for_one = omega (arith, matching_few so.under.running.matching, so.few)
 
     to_do_lem : (b : ℕ) → budget - firings ≡ b → end_over order source (graph_of graph) tables ledger₀ cells₀ start budget t₀ ≡ runs b firings t s
     to_do_lem b e = so.to_do ∙ ap (λ (n : ℕ). runs n firings t s) e
@@ -143,61 +133,53 @@ module _ (graph : List ℕ) (order : Order) (source ledger₀ cells₀ table₀ 
     chosen_there : (x : Chosen Refusal Tag) → chosen ≡ x → chooser_for order source (graph_of graph) tables ledger₀ cells₀ firings s ≡ x
     chosen_there x e = lent (λ p q. chooser_of order source (graph_of graph) (arrays_in tables) p q firings s ≡ x) e
 
-    module _ (ready : Prepared graph tables) (table' : List ℕ) (count' : ℕ) (held : table_of count' table' ≡ table_of count table ++ added_by chosen steps) (size : length table' ≡ length table) where
+    module _ (ready : Prepared graph tables) (t' : List Range) (held : t' ≡ t ++ added_by chosen steps) where
       -- by what was chosen
-      held_by_lem : (x : Chosen Refusal Tag) → chosen ≡ x → table_of count' table' ≡ t ++ added_by x steps
+      held_by_lem : (x : Chosen Refusal Tag) → chosen ≡ x → t' ≡ t ++ added_by x steps
       held_by_lem x e = held ∙ ap (λ (y : Chosen Refusal Tag). t ++ added_by y steps) e
 
       -- a turn that fired
       pub advanced : firings < budget → {links' flags' ledger' cells' : List ℕ} {n place : ℕ} → Advanced (graph_of graph) chosen (λ τ. (steps τ).asked) place tables links' flags' ledger' cells' n used ledger cells
-          → SoFar (graph_of graph) order source ledger₀ cells₀ table₀ start budget t₀ tables links' flags' ledger' cells' table' n (firings + 1) count'
+          → SoFar (graph_of graph) order source ledger₀ cells₀ start budget t₀ tables links' flags' ledger' cells' t' n (firings + 1)
       advanced h {ledger' = ledger'} {cells' = cells'} {n = n} {place = place} a =
           let its : Activity Tag = record { place = place; tag = (token_at ledger' place).tag } in
           let τ = (token_at ledger' place).tag in
-          let more : table_of count' table' ≡ t ++ (steps τ).added = held_by_lem (takes its) a.taken in
+          let more : t' ≡ t ++ (steps τ).added = held_by_lem (takes its) a.taken in
           let few = went_few graph ready.passed tables ledger cells used t τ so.under.running a.went in
           record {
             within = omega arith;
             under = went_on (graph_of graph) ledger₀ cells₀ start tables so.under a.went;
-            room = record { pairs = omega (arith, so.room.pairs, size); few = omega (arith, so.room.few, grown_count count count' table table' (steps τ).added more, few) };
-            size = size ∙ so.size;
+            few = omega (arith, so.few, grown_count t t' (steps τ).added more, few);
             to_do = rw (add-one firings) (to_do_lem (suc (budget - suc firings)) (omega arith)
                 ∙ on_fired (range_machine_of (graph_of graph) (arrays_in tables) (length ledger₀ / token_width) (length cells₀ / cell_width)) ℤ (effect_in (graph_of graph) (arrays_in tables) (length cells₀ / cell_width)) (pos 0)
                 (step_in (graph_of graph) (arrays_in tables) (length cells₀ / cell_width)) nat_abs related (chooser_for order source (graph_of graph) tables ledger₀ cells₀) (budget - suc firings) firings t s its (chosen_there (takes its) a.taken)
-                (table_of count' table') (state_in ledger' cells' n) (fires_there τ ∙ (λ i. record { table = sym more i; result = a.went.step i })));
+                t' (state_in ledger' cells' n) (fires_there τ ∙ (λ i. record { table = sym more i; result = a.went.step i })));
           }
 
       -- a turn that ended the run
       came : {o : Outcome Refusal} → Stops (machine_over (graph_of graph) tables ledger cells) s chosen (λ τ. (steps τ).asked) o → firings < budget
-          → (end_over order source (graph_of graph) tables ledger₀ cells₀ start budget t₀ ≡ record { table = table_of count' table'; ended = end M₀ o firings s }) × (count' ≤ count + 1)
+          → end_over order source (graph_of graph) tables ledger₀ cells₀ start budget t₀ ≡ record { table = t'; ended = end M₀ o firings s }
       came {o} (by_choice e) h =
-          let more : table_of count' table' ≡ t = held_by_lem (ends o) e ∙ append-nil t in (
-            to_do_lem (suc (budget - suc firings)) (omega arith)
-                ∙ on_ends (range_machine_of (graph_of graph) (arrays_in tables) (length ledger₀ / token_width) (length cells₀ / cell_width)) ℤ (effect_in (graph_of graph) (arrays_in tables) (length cells₀ / cell_width)) (pos 0)
-                (step_in (graph_of graph) (arrays_in tables) (length cells₀ / cell_width)) nat_abs related (chooser_for order source (graph_of graph) tables ledger₀ cells₀) (budget - suc firings) firings t s o (chosen_there (ends o) e)
-                ∙ (λ i. record { table = sym more i; ended = end M₀ o firings s }),
-            omega (arith, grown_count count count' table table' [] (held_by_lem (ends o) e)),
-          )
+          let more : t' ≡ t = held_by_lem (ends o) e ∙ append-nil t in
+          to_do_lem (suc (budget - suc firings)) (omega arith)
+          ∙ on_ends (range_machine_of (graph_of graph) (arrays_in tables) (length ledger₀ / token_width) (length cells₀ / cell_width)) ℤ (effect_in (graph_of graph) (arrays_in tables) (length cells₀ / cell_width)) (pos 0)
+          (step_in (graph_of graph) (arrays_in tables) (length cells₀ / cell_width)) nat_abs related (chooser_for order source (graph_of graph) tables ledger₀ cells₀) (budget - suc firings) firings t s o (chosen_there (ends o) e)
+          ∙ (λ i. record { table = sym more i; ended = end M₀ o firings s })
       came {o} (by_refusal a r e f q) h =
-          let more : table_of count' table' ≡ t ++ (steps a.tag).added = held_by_lem (takes a) e in (
-            to_do_lem (suc (budget - suc firings)) (omega arith)
-                ∙ on_refused (range_machine_of (graph_of graph) (arrays_in tables) (length ledger₀ / token_width) (length cells₀ / cell_width)) ℤ (effect_in (graph_of graph) (arrays_in tables) (length cells₀ / cell_width)) (pos 0)
-                (step_in (graph_of graph) (arrays_in tables) (length cells₀ / cell_width)) nat_abs related (chooser_for order source (graph_of graph) tables ledger₀ cells₀) (budget - suc firings) firings t s a (chosen_there (takes a) e)
-                (table_of count' table') r (fires_there a.tag ∙ (λ i. record { table = sym more i; result = f i }))
-                ∙ (λ i. record { table = table_of count' table'; ended = end M₀ (sym q i) firings s }),
-            omega (arith, grown_count count count' table table' (steps a.tag).added more, step_one graph ready.passed tables ledger cells used t a.tag),
-          )
+          let more : t' ≡ t ++ (steps a.tag).added = held_by_lem (takes a) e in
+          to_do_lem (suc (budget - suc firings)) (omega arith)
+          ∙ on_refused (range_machine_of (graph_of graph) (arrays_in tables) (length ledger₀ / token_width) (length cells₀ / cell_width)) ℤ (effect_in (graph_of graph) (arrays_in tables) (length cells₀ / cell_width)) (pos 0)
+          (step_in (graph_of graph) (arrays_in tables) (length cells₀ / cell_width)) nat_abs related (chooser_for order source (graph_of graph) tables ledger₀ cells₀) (budget - suc firings) firings t s a (chosen_there (takes a) e)
+          t' r (fires_there a.tag ∙ (λ i. record { table = sym more i; result = f i }))
+          ∙ (λ i. record { table = t'; ended = end M₀ (sym q i) firings s })
 
       pub halted : firings < budget → {o : AnswerOutcome.Outcome} {links' flags' ledger' cells' : List ℕ} → Halted o (graph_of graph) chosen (λ τ. (steps τ).asked) tables links' flags' ledger' cells' used ledger cells
-          → RanOver (end_over order source (graph_of graph) tables ledger₀ cells₀ start budget t₀) (record { answer = record { outcome = o; firings = firings; tokens = used }; count = count' }) (graph_of graph) tables links' flags' ledger' cells' table' start ledger₀ cells₀ table₀
+          → RanOver (end_over order source (graph_of graph) tables ledger₀ cells₀ start budget t₀) (record { outcome = o; firings = firings; tokens = used }) (graph_of graph) tables links' flags' ledger' cells' t' start ledger₀ cells₀
       halted h {o} a =
           let c = came a.stops h in
-          let few = matching_few so.under.running.matching in
           record {
-            proceeded = ends_here_lem (graph_of graph) ledger₀ cells₀ start tables so.under firings a.outcome o a.told (ap (λ (x : Tabled Refusal Tag Range ℤ). x.ended) c.0) a.running a.same_ledger a.same_cells;
-            tabled = ap (λ (x : Tabled Refusal Tag Range ℤ). x.table) c.0;
-            few = omega (arith, c.1, so.room.few);
-            size = size ∙ so.size;
+            proceeded = ends_here_lem (graph_of graph) ledger₀ cells₀ start tables so.under firings a.outcome o a.told (ap (λ (x : Tabled Refusal Tag Range ℤ). x.ended) c) a.running a.same_ledger a.same_cells;
+            tabled = ap (λ (x : Tabled Refusal Tag Range ℤ). x.table) c;
           }
 
     -- what is held back is to be known again
@@ -208,15 +190,12 @@ module _ (graph : List ℕ) (order : Order) (source ledger₀ cells₀ table₀ 
 
     -- the budget is spent
     pub finished : budget ≤ firings → Arities (graph_of graph) tables → (w : AnswerOutcome.Outcome) → RestsAs w tables (tokens used ledger)
-        → RanOver (end_over order source (graph_of graph) tables ledger₀ cells₀ start budget t₀) (record { answer = record { outcome = w; firings = firings; tokens = used }; count = count }) (graph_of graph) tables links flags ledger cells table start ledger₀ cells₀ table₀
+        → RanOver (end_over order source (graph_of graph) tables ledger₀ cells₀ start budget t₀) (record { outcome = w; firings = firings; tokens = used }) (graph_of graph) tables links flags ledger cells t start ledger₀ cells₀
     finished h right w said =
-        let few = matching_few so.under.running.matching in
         let e = to_do_lem 0 (omega arith)
         ∙ on_zero (range_machine_of (graph_of graph) (arrays_in tables) (length ledger₀ / token_width) (length cells₀ / cell_width)) ℤ (effect_in (graph_of graph) (arrays_in tables) (length cells₀ / cell_width)) (pos 0)
         (step_in (graph_of graph) (arrays_in tables) (length cells₀ / cell_width)) nat_abs related (chooser_for order source (graph_of graph) tables ledger₀ cells₀) firings t s in
         record {
           proceeded = rests_here (graph_of graph) ledger₀ cells₀ start tables so.under firings right w said (ap (λ (x : Tabled Refusal Tag Range ℤ). x.ended) e);
           tabled = ap (λ (x : Tabled Refusal Tag Range ℤ). x.table) e;
-          few = omega (arith, so.room.few);
-          size = so.size;
         }

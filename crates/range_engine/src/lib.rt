@@ -4,19 +4,19 @@
 
 pub mod turns;
 
-ghost use Rattle.std.specs.Prelude.{◌*◌, ◌/◌, ◌+◌, ◌≤◌, ◌<◌, ◌≡◌, length};
+ghost use Rattle.std.specs.Prelude.{◌/◌, ◌+◌, ◌≤◌, ◌<◌, ◌≡◌, length};
 ghost use Rattle.record.specs.GraphRecords.{graph_of};
 ghost use Rattle.record.specs.Arrays.{arrays_of};
 ghost use Rattle.record.specs.Widths.{token_width, cell_width};
 ghost use Rattle.rules.specs.Run.{first_state};
 ghost use Rattle.rules.specs.RangeRun.{check_range_stores, RangesRan};
 ghost use Rattle.start.specs.Begun.{Accepted};
-ghost use Rattle.range_table.specs.Table.{pair_width, table_of};
 ghost use Rattle.range_engine.specs.Promise.{lent_to_run, left_by_run, RangesOn};
 ghost use Rattle.range_engine.specs.Over.{Tells, Fits, AsManyHandles, own_bytes, store_bytes, Leaves, LentToRanges, with_inputs, ranges_lent_checked};
 
-use crate::turns::{Going, Ran};
+use crate::turns::Going;
 use checks::{bound, stores};
+use range_table::RangeTable;
 use record::{cell, token};
 use rules::answer;
 use rules::answer::{Answer, Fault, Refusal};
@@ -30,16 +30,18 @@ fn over_handles(
     picks: &[u8],
     budget: usize,
     bound: usize,
-    table: &mut [u8],
+    table: &mut RangeTable,
     ledger: &mut [u8],
     cells: &mut [u8],
-) -> Ran
-    requires { Accepted graph.now arrays.now handles.now (length ledger.old) (length cells.old) × (bound < 65536) × (2050 * pair_width ≤ length table.old) }
+) -> Answer
+    requires { Accepted graph.now arrays.now handles.now (length ledger.old) (length cells.old)
+        × (bound < 65536)
+        × (length table.old ≤ length handles.now / token_width + 1) }
     ensures tells { Tells bound picks.now budget (graph_of graph.now) (arrays_of arrays.now)
         (length ledger.old / token_width) (length cells.old / cell_width)
-        (table_of (length handles.now / token_width + 1) table.old)
+        table.old
         (first_state handles.now (length cells.old / cell_width)) result ledger.new cells.new table.new }
-    ensures fits { Fits result ledger.new cells.new table.new ledger.old cells.old table.old }
+    ensures fits { Fits result ledger.new cells.new ledger.old cells.old }
 {
     let mut tables = [0u16; store_enabled::TABLES_LENGTH];
     let mut links = [0u16; store_chains::LENGTH];
@@ -64,11 +66,7 @@ fn over_handles(
         &mut flags,
         ledger,
         cells,
-        Going {
-            used,
-            count: used + 1,
-            budget,
-        },
+        Going { used, budget },
     )
 }
 
@@ -80,7 +78,7 @@ fn written(
     picks: &[u8],
     budget: usize,
     bound: usize,
-    table: &mut [u8],
+    table: &mut RangeTable,
     own: &mut [u8],
     store: &mut [u8],
     ledger: &mut [u8],
@@ -88,17 +86,16 @@ fn written(
 ) -> Answer
     requires { Accepted graph.now arrays.now handles.now (length own.old) (length store.old)
         × (bound < 65536)
-        × (2050 * pair_width ≤ length table.old)
+        × (length table.old ≤ length handles.now / token_width + 1)
         × AsManyHandles (length own.old) (length store.old) (length ledger.old) (length cells.old) }
     ensures { Leaves bound picks.now budget graph.now arrays.now handles.now table.old result
         ledger.old cells.old ledger.new cells.new }
 {
-    let ran = over_handles(
+    let a = over_handles(
         graph, arrays, handles, picks, budget, bound, table, own, store,
     );
-    let a = ran.answer;
-    range_output::put_tokens(table, ran.count, own, a.tokens, ledger);
-    range_output::put_cells(table, ran.count, store, store.len() / cell::WIDTH, cells);
+    range_output::put_tokens(table, own, a.tokens, ledger);
+    range_output::put_cells(table, store, store.len() / cell::WIDTH, cells);
     a
 }
 
@@ -110,11 +107,13 @@ fn accepted(
     picks: &[u8],
     budget: usize,
     bound: usize,
-    table: &mut [u8],
+    table: &mut RangeTable,
     ledger: &mut [u8],
     cells: &mut [u8],
 ) -> Answer
-    requires { Accepted graph.now arrays.now handles.now (own_bytes (length ledger.old)) (store_bytes (length cells.old)) × (bound < 65536) × (2050 * pair_width ≤ length table.old) }
+    requires { Accepted graph.now arrays.now handles.now (own_bytes (length ledger.old)) (store_bytes (length cells.old))
+        × (bound < 65536)
+        × (length table.old ≤ length handles.now / token_width + 1) }
     ensures { Leaves bound picks.now budget graph.now arrays.now handles.now table.old result
         ledger.old cells.old ledger.new cells.new }
 {
@@ -146,25 +145,23 @@ fn handled(
     budget: usize,
     bound: usize,
     handles: &mut [u8],
-    table: &mut [u8],
     ledger: &mut [u8],
     cells: &mut [u8],
 ) -> Answer
     requires { LentToRanges graph.now arrays.now (length inputs.now) (length ledger.old) (length cells.old)
         × (bound < 65536)
-        × (length handles.old ≡ own_bytes (length inputs.now))
-        × (2050 * pair_width ≤ length table.old) }
+        × (length handles.old ≡ own_bytes (length inputs.now)) }
     ensures { RangesRan
         (with_inputs bound picks.now budget graph.now arrays.now inputs.now (length ledger.old)
         (length cells.old)) result ledger.old ledger.new cells.old cells.new }
 {
-    range_inputs::narrow(inputs, handles, table);
+    let mut table = range_inputs::narrow(inputs, handles);
     let capacity = ledger.len() / range_output::TOKEN_WIDTH;
     let checked = range_inputs::check(graph, inputs, handles, capacity);
     match checked {
         Err(fault) => answer::refused(fault),
         Ok(()) => accepted(
-            graph, arrays, handles, picks, budget, bound, table, ledger, cells,
+            graph, arrays, handles, picks, budget, bound, &mut table, ledger, cells,
         ),
     }
 }
@@ -186,7 +183,6 @@ fn with_inputs(
         (length cells.old)) result ledger.old ledger.new cells.old cells.new }
 {
     let mut handles = [0u8; 57344];
-    let mut table = [0u8; 16400];
     let bytes = inputs.len() / range_inputs::WIDTH * token::WIDTH;
     handled(
         graph,
@@ -196,7 +192,6 @@ fn with_inputs(
         budget,
         bound,
         &mut handles[0..bytes],
-        &mut table,
         ledger,
         cells,
     )

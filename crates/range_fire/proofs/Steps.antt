@@ -33,8 +33,6 @@ use Rattle.fire_outputs.specs.Outputs.{cells_in}
 use Rattle.fire_commit.specs.Commit.{Committed, committed_of, CommittedTo, Fitting}
 use Rattle.fire.specs.Running.{Running, Stepped, Prepared}
 use Rattle.fire.proofs.Steps.{low_ports, sent_keys, on_cells, Done, there, stepped, inside, asks_refusal, committed_by_port}
-use Rattle.range_table.specs.Table.{table_of}
-use Rattle.range_effect.specs.declared.Asked.{Asked}
 use Rattle.range_effect.specs.Asked.{ask_of, AsksFor}
 use Rattle.range_effect.proofs.Laws.{Fine, step_parted, asked_fine}
 use Rattle.range_fire.specs.Tried.{step_at, TriedAs}
@@ -87,7 +85,7 @@ module _ (graph : List ℕ) {tables links flags ledger cells : List ℕ} {used :
     (now : Running (graph_of graph) tables links flags ledger cells used) (place : ℕ) (within : place < used) (t : Record.Token) (same : t ≡ token_at ledger place) (other : ℕ) (v w : ℤ)
     (matched : matched_at (arity_in (graph_of graph) (token_at ledger place).tag) (tokens used ledger) (token_at ledger place).tag ≡ both_at (token_at ledger place).port place other v w)
     (r : Instruction) (o : Operation) (fetched : r ≡ instruction_in graph t.tag.instruction) (decoded : o ≡ operation_of r.code)
-    (table table' : List ℕ) (count : ℕ) (asked : Asked) (asks : AsksFor asked (ask_of o (arrays_in tables) r.constant (length cells / cell_width) (table_of count table) v w) table table' count) where
+    (h h' : List Range) (asked : Result Action Refusal) (asks : AsksFor asked (ask_of o (arrays_in tables) r.constant (length cells / cell_width) h v w) h h') where
   abbrev τ : Tag
   τ = (token_at ledger place).tag
 
@@ -97,11 +95,8 @@ module _ (graph : List ℕ) {tables links flags ledger cells : List ℕ} {used :
   abbrev j : ℕ
   j = by_port (token_at ledger place).port other place
 
-  abbrev h : List Range
-  h = table_of count table
-
   abbrev x : StepHere
-  x = step_at (graph_of graph) tables ledger cells used (table_of count table) (token_at ledger place).tag
+  x = step_at (graph_of graph) tables ledger cells used h (token_at ledger place).tag
 
   within_graph : t.tag.instruction < length graph / graph_width
   within_graph = inside graph ready now place within t same
@@ -115,26 +110,25 @@ module _ (graph : List ℕ) {tables links flags ledger cells : List ℕ} {used :
   asked_found = ap (λ (y : StepHere). y.asked) step_found
 
   tried : (f : Result ℕ Refusal) {links' flags' ledger' cells' : List ℕ} → Stepped f (graph_of graph) τ x.asked tables links' flags' ledger' cells' used ledger cells
-      → TriedAs (record { fired = f; count = asked.count }) (graph_of graph) τ x tables links' flags' ledger' cells' table' used ledger cells table count
+      → TriedAs f (graph_of graph) τ x tables links' flags' ledger' cells' h' used ledger cells h
   tried f s = record {
     stepped = s;
     held =
         asks.held
-        ∙ ap (λ (l : List Range). table_of count table ++ l) (sym (ap (λ (y : StepHere). y.added) step_found ∙ added_in_turn graph (arrays_in tables) (length cells / cell_width) t.tag within_graph h v w r o fetched decoded));
-    size = asks.size;
+        ∙ ap (λ (l : List Range). h ++ l) (sym (ap (λ (y : StepHere). y.added) step_found ∙ added_in_turn graph (arrays_in tables) (length cells / cell_width) t.tag within_graph h v w r o fetched decoded));
   }
 
   stops : {q : Refusal} → (step_in (graph_of graph) (arrays_in tables) (length cells / cell_width) h t.tag v w).asked ≡ refuse q
-      → TriedAs (record { fired = Err q; count = asked.count }) (graph_of graph) τ x tables links flags ledger cells table' used ledger cells table count
+      → TriedAs (Err q) (graph_of graph) τ x tables links flags ledger cells h' used ledger cells h
   stops {q} e = tried (Err q) (asks_refusal graph ready now place within τ (asked_found ∙ e))
 
   -- the operation is refused
-  pub refused_first_lem : {q : Refusal} → asked.operated ≡ Err q → TriedAs (record { fired = Err q; count = asked.count }) (graph_of graph) τ x tables links flags ledger cells table' used ledger cells table count
+  pub refused_first_lem : {q : Refusal} → asked ≡ Err q → TriedAs (Err q) (graph_of graph) τ x tables links flags ledger cells h' used ledger cells h
   refused_first_lem e = stops (asked_refused graph (arrays_in tables) (length cells / cell_width) t.tag within_graph h v w r o fetched decoded (sym asks.operated ∙ e))
 
-  module _ {y : Action} (acts : asked.operated ≡ Ok y) {m : Result Outputs Refusal} (made : Makes m (new_tags_of o (graph_of graph) t.tag r (meaning (table_of count table) w).low)) where
+  module _ {y : Action} (acts : asked ≡ Ok y) {m : Result Outputs Refusal} (made : Makes m (new_tags_of o (graph_of graph) t.tag r (meaning h w).low)) where
     -- the new tags are refused
-    pub refused_second : {q : Refusal} → m ≡ Err q → TriedAs (record { fired = Err q; count = asked.count }) (graph_of graph) τ x tables links flags ledger cells table' used ledger cells table count
+    pub refused_second : {q : Refusal} → m ≡ Err q → TriedAs (Err q) (graph_of graph) τ x tables links flags ledger cells h' used ledger cells h
     refused_second e = stops (tags_refused graph (arrays_in tables) (length cells / cell_width) t.tag within_graph h v w r o fetched decoded (sym asks.operated ∙ acts) made e)
 
     module _ {s : Outputs} (to : m ≡ Ok s) where
@@ -148,7 +142,7 @@ module _ (graph : List ℕ) {tables links flags ledger cells : List ℕ} {used :
       -- from matching to output
       pub committed : (links' flags' ledger' cells' : List ℕ) (f : Result ℕ Refusal)
           → CommittedTo f (committed_of (length ledger / token_width) (tokens used ledger) (cells_in cells) place other y s) tables links' flags' ledger' cells' used ledger cells
-          → TriedAs (record { fired = f; count = asked.count }) (graph_of graph) τ x tables links' flags' ledger' cells' table' used ledger cells table count
+          → TriedAs f (graph_of graph) τ x tables links' flags' ledger' cells' h' used ledger cells h
       committed links' flags' ledger' cells' f left =
           tried f (stepped graph ready.passed now τ (arity_small (graph_of graph) τ) i j v w matched y s x.asked
           (subst (Done (graph_of graph) (length cells / cell_width) y s) (sym asked_found) does) links' flags' ledger' cells' f

@@ -14,8 +14,8 @@ hold_first-requires c =
     let fits = rw c.in-Free.is at (bound_fits c.args.picks.now c.args.bound c.requires.3 o.result o.ensures) in
     rw (c.new-nexts.ensures, c.new-held.ensures) (started_on c.args.graph.now c.requires.0 c.requires.1 _ fits.0 fits.1)
 
-pub turns-ran-requires : goal.turns-ran-requires
-turns-ran-requires c = (
+pub turns-own-requires : goal.turns-own-requires
+turns-own-requires c = (
   c.requires.0,
   c.requires.1,
   elim c.match-order.branch [
@@ -25,9 +25,9 @@ turns-ran-requires c = (
   c.requires.2,
 )
 
-pub settle-answer-requires : goal.settle-answer-requires
-settle-answer-requires c =
-    let t = c.turns-ran in
+pub settle-requires : goal.settle-requires
+settle-requires c =
+    let t = c.turns-own in
     let now = t.ensures.ran_over.proceeded.running in
     (rw c.in-Free-order.is at (beside_of c.args.graph.now c.requires.0 now _ _ _ _ t.ensures.bounding), matching_room now.matching)
 
@@ -35,38 +35,38 @@ pub returns-in-Free-order : goal.returns-in-Free-order
 returns-in-Free-order c =
     let a = c.args in
     let made = c.order_under-order in
-    let t = c.turns-ran in
+    let t = c.turns-own in
     let o = c.match-order.order in
     let same : o ≡ made.result = elim c.match-order.branch [ in-Free w ↦ w.order-is ∙ sym w.in-Free.is | in_default w ↦ w.order-is ] in
-    let l = left_by_lem a.picks.now a.bound (graph_of a.graph.now) a.tables.now _ _ _ _ _ _ a.ledger.now a.cells.now a.table.now _ _ a.going.used a.going.budget a.going.count t.result c.settle-answer.result c.requires.0.arities_right o (rw same made.ensures) t.ensures.ran_over t.ensures.bounding (rw c.in-Free-order.is c.settle-answer.ensures) in
+    let l = left_by_lem a.picks.now a.bound (graph_of a.graph.now) a.tables.now _ _ _ _ _ _ a.ledger.now a.cells.now a.table.now _ _ a.going.used a.going.budget t.result c.settle.result c.requires.0.arities_right o (rw same made.ensures) t.ensures.ran_over t.ensures.bounding (rw c.in-Free-order.is c.settle.ensures) in
     record { tells = l.0; fits = l.1 }
 
 pub returns-in-Oldest : goal.returns-in-Oldest
 returns-in-Oldest c =
     let a = c.args in
     let made = c.order_under-order in
-    let t = c.turns-ran in
+    let t = c.turns-own in
     let o = c.match-order.order in
     let same : o ≡ made.result = elim c.match-order.branch [ in-Free w ↦ w.order-is ∙ sym w.in-Free.is | in_default w ↦ w.order-is ] in
-    let l = left_by_lem a.picks.now a.bound (graph_of a.graph.now) a.tables.now _ _ _ _ _ _ a.ledger.now a.cells.now a.table.now _ _ a.going.used a.going.budget a.going.count t.result t.result.answer c.requires.0.arities_right o (rw same made.ensures) t.ensures.ran_over t.ensures.bounding (rw c.in-Oldest.is refl) in
+    let l = left_by_lem a.picks.now a.bound (graph_of a.graph.now) a.tables.now _ _ _ _ _ _ a.ledger.now a.cells.now a.table.now _ _ a.going.used a.going.budget t.result t.result c.requires.0.arities_right o (rw same made.ensures) t.ensures.ran_over t.ensures.bounding (rw c.in-Oldest.is refl) in
     record { tells = l.0; fits = l.1 }
 
 pub returns-in-Picks : goal.returns-in-Picks
 returns-in-Picks c =
     let a = c.args in
     let made = c.order_under-order in
-    let t = c.turns-ran in
+    let t = c.turns-own in
     let o = c.match-order.order in
     let same : o ≡ made.result = elim c.match-order.branch [ in-Free w ↦ w.order-is ∙ sym w.in-Free.is | in_default w ↦ w.order-is ] in
-    let l = left_by_lem a.picks.now a.bound (graph_of a.graph.now) a.tables.now _ _ _ _ _ _ a.ledger.now a.cells.now a.table.now _ _ a.going.used a.going.budget a.going.count t.result t.result.answer c.requires.0.arities_right o (rw same made.ensures) t.ensures.ran_over t.ensures.bounding (rw c.in-Picks.is refl) in
+    let l = left_by_lem a.picks.now a.bound (graph_of a.graph.now) a.tables.now _ _ _ _ _ _ a.ledger.now a.cells.now a.table.now _ _ a.going.used a.going.budget t.result t.result c.requires.0.arities_right o (rw same made.ensures) t.ensures.ran_over t.ensures.bounding (rw c.in-Picks.is refl) in
     record { tells = l.0; fits = l.1 }
 
 pub returns-in-Log : goal.returns-in-Log
 returns-in-Log c =
     let a = c.args in
     let made = c.order_under-order in
-    let t = c.turns-ran in
+    let t = c.turns-own in
     let o = c.match-order.order in
     let same : o ≡ made.result = elim c.match-order.branch [ in-Free w ↦ w.order-is ∙ sym w.in-Free.is | in_default w ↦ w.order-is ] in
-    let l = left_by_lem a.picks.now a.bound (graph_of a.graph.now) a.tables.now _ _ _ _ _ _ a.ledger.now a.cells.now a.table.now _ _ a.going.used a.going.budget a.going.count t.result t.result.answer c.requires.0.arities_right o (rw same made.ensures) t.ensures.ran_over t.ensures.bounding (rw c.in-Log.is refl) in
+    let l = left_by_lem a.picks.now a.bound (graph_of a.graph.now) a.tables.now _ _ _ _ _ _ a.ledger.now a.cells.now a.table.now _ _ a.going.used a.going.budget t.result t.result c.requires.0.arities_right o (rw same made.ensures) t.ensures.ran_over t.ensures.bounding (rw c.in-Log.is refl) in
     record { tells = l.0; fits = l.1 }
