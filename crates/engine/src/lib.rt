@@ -19,6 +19,7 @@ ghost use Rattle.engine.specs.Turns.{recorded, end_bounded, fired_bounded, end_f
 
 use crate::turns::Going;
 use checks::{bound, graph, stores};
+use fire::Plain;
 use record::cell;
 use rules::answer;
 use rules::answer::{Answer, Fault, Refusal};
@@ -50,7 +51,7 @@ fn go_on(
 {
     let order = choice::order_under(picks, bound);
     turns::proceed(
-        graph, tables, order, picks, links, flags, ledger, cells, log, going,
+        graph, tables, order, picks, &mut Plain, links, flags, ledger, cells, log, going,
     )
 }
 

@@ -19,6 +19,7 @@ ghost use Rattle.start.specs.Begun.{machine_lent};
 ghost use Rattle.profile.specs.Steps.{OneOrTwo, PlacesIn, unspent_at, profile_from, LastAs, FiredAs, StepDone, ProfiledTo};
 
 use checks::stores;
+use fire::Plain;
 use record::token;
 use rules::answer::{Answer, Fault, Outcome, Profiled, Refusal};
 use store_chains::Links;
@@ -188,7 +189,9 @@ fn in_turn(
     for firings in 0..count {
         let place = places[firings] as usize;
         spent += operands_at(tables, ledger, place);
-        let fired = fire::fire(graph, tables, links, flags, ledger, cells, used, place);
+        let fired = fire::fire(
+            graph, tables, &mut Plain, links, flags, ledger, cells, used, place,
+        );
         match fired {
             Ok(n) => used = n,
             Err(r) => {

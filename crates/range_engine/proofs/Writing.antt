@@ -1,4 +1,4 @@
--- From a run over handles to what a range run leaves: as ranges (`as_ranges`), settled by the order (`left_by`), from inputs (`told_first`), in bytes (`written_as`),
+-- From a run over handles to what a range run leaves: as ranges (`as_ranges`), of the engine's loop (`loop_tells`), from inputs (`told_first`), in bytes (`written_as`),
 -- and that checked inputs as handles stand for the range run's first state (`inputs_stand`). Assumes nothing.
 use Rattle.std.proofs.Common.{Ok, Err}
 use Prim.Native.Nat.{ℕ, ◌+◌, ◌-◌, ◌*◌, ◌/◌, ◌%◌, ◌≤◌}
@@ -35,27 +35,29 @@ use Rattle.rules.specs.Bounded.{and_bound}
 use Rattle.rules.specs.InstructionSet.{machine_of}
 use Rattle.rules.specs.Run.{picks_of, token_held, cell_held, first_state}
 use Rattle.rules.specs.RangeSet.{range_machine_of}
-use Rattle.rules.specs.RangeRun.{encode_range, encode_range_cell, range_capacity_of, check_range_stores, check_range_inputs, check_ranges, range_in, first_ranges, refused_at_once, ranges_unless_failed, range_result}
+use Rattle.rules.specs.RangeRun.{encode_range, encode_range_cell, range_in, range_capacity_of, check_range_stores, check_range_inputs, check_ranges, first_ranges, refused_at_once, ranges_unless_failed, range_result}
 use Rattle.rules.specs.RangeHandles.{meaning, first_table, first_handles, handle_run}
 use Rattle.rules.proofs.Passed.{and_then_passed}
 use Rattle.check_fields.proofs.Turns.{and_true_left, and_true_right, demanded}
 use Rattle.checks.proofs.Passed.{passed_arrays}
 use Rattle.rules.proofs.Ranges.{same_fields}
 use Rattle.rules.proofs.RangeHandles.{handle_run_lem}
-use Rattle.abstraction.specs.Tables.{Arities, arrays_in}
+use Rattle.abstraction.specs.Tables.{arrays_in}
 use Rattle.store.proofs.Laws.{matching_room}
 use Rattle.fire_outputs.specs.Outputs.{cells_in}
 use Rattle.fire.specs.Running.{state_in}
 use Rattle.start.specs.Begun.{Accepted, Begun}
 use Rattle.engine.specs.declared.choice.Order.{Order}
 use Rattle.engine.specs.declared.choice.Order.TheVariants.{Oldest, Picks, Log, Free}
-use Rattle.engine.specs.Turns.{chooser_for, ByPicks, ByBound, Bounding, Proceeded}
-use Rattle.engine.proofs.Bounding.{SettledBy, settled_end}
+use Rattle.engine.specs.Turns.{chooser_for, ByPicks, ByBound, Proceeded}
+use Rattle.engine.specs.Keeping.{Kept, end_keeping, settled_by}
 use Rattle.range_inputs.specs.Handles.{handles_of, check_proper, Narrow}
 use Rattle.range_inputs.proofs.Rows.{fields_each, handles_count}
 use Rattle.range_inputs.proofs.First.{first_state_lem}
 use Rattle.range_output.specs.Left.{tokens_meant, cells_meant}
-use Rattle.range_engine.specs.Over.{end_over, settled_over, range_end, RanOver, AsRanges, Fits, StandsFor, Tells, own_bytes, store_bytes, AsManyHandles, LeftAs, Leaves, LentToRanges, with_inputs, ranges_lent_checked}
+use Rattle.range_fire.specs.Ranges.{ranges_ask, ranges_keep}
+use Rattle.range_engine.specs.Over.{end_over, settled_over, range_end, AsRanges, Fits, StandsFor, Tells, own_bytes, store_bytes, AsManyHandles, LeftAs, Leaves, LentToRanges, with_inputs, ranges_lent_checked}
+use Rattle.range_engine.proofs.Handles.{end_handles}
 use Rattle.range_engine.proofs.Telling.{told_plain, told_bounded}
 
 -- ---- as ranges
@@ -78,50 +80,50 @@ module _ (r : Answer) (E : End Refusal Tag Range) (x : Tabled Refusal Tag Range 
   as_ranges = subst (λ (e : End Refusal Tag Range). AsRanges e r ledger' cells' table') (sym same)
       (record { answered = λ i. record { outcome = sym p.told i; firings = r.firings; tokens = sym size i }; state = refl })
 
-fits_left : {e : End Refusal Tag ℤ} {a : Answer} {g : List Instruction} {tables links flags ledger' cells' : List ℕ} {used : ℕ} {ledger cells : List ℕ} → Proceeded e a g tables links flags ledger' cells' used ledger cells → Fits a ledger' cells' ledger cells
-fits_left p = record { room = matching_room p.running.matching; size = p.size; cell_size = p.cell_size }
-
 -- ---- from state to state
 
-tells_plain : (order : Order) (picks : List ℕ) → ByPicks order picks → (g : List Instruction) (tables links flags ledger' cells' : List ℕ) (table' : List Range) (ledger cells : List ℕ) (table : List Range) (used budget : ℕ) (r : Answer)
-    → RanOver (end_over order picks g tables ledger cells used budget table) r g tables links flags ledger' cells' table' used ledger cells
-    → Tells 0 picks budget g (arrays_in tables) (length ledger / token_width) (length cells / cell_width) table (state_in ledger cells used) r ledger' cells' table'
-tells_plain order picks by g tables links flags ledger' cells' table' ledger cells table used budget r o s h =
-    let p = length ledger / token_width in
-    let q = length cells / cell_width in
-    as_ranges r (range_end 0 picks budget g (arrays_in tables) p q s) (end_over order picks g tables ledger cells used budget table) table' o.proceeded o.tabled
-    (told_plain g (arrays_in tables) p q (picks_of picks) table s (state_in ledger cells used) h budget (chooser_for order picks g tables ledger cells) (by g (arrays_in tables) p q))
-
-tells_bounded : (k : ℕ) (picks : List ℕ) (g : List Instruction) (tables links flags ledger' cells' : List ℕ) (table' : List Range) (ledger cells : List ℕ) (table : List Range) (used budget : ℕ) (r : Answer)
-    → RanOver (end_over (Free k) picks g tables ledger cells used budget table) r g tables links flags ledger' cells' table' used ledger cells
-    → (a : Answer) → Proceeded (settled_over k g tables ledger cells (end_over (Free k) picks g tables ledger cells used budget table)).ended a g tables links flags ledger' cells' used ledger cells
-    → Tells k picks budget g (arrays_in tables) (length ledger / token_width) (length cells / cell_width) table (state_in ledger cells used) a ledger' cells' table'
-tells_bounded k picks g tables links flags ledger' cells' table' ledger cells table used budget r o a p s h =
-    let m = length ledger / token_width in
-    let q = length cells / cell_width in
-    as_ranges a (range_end k picks budget g (arrays_in tables) m q s) (settled_over k g tables ledger cells (end_over (Free k) picks g tables ledger cells used budget table)) table' p o.tabled
-    (told_bounded g (arrays_in tables) m q (picks_of picks) table s (state_in ledger cells used) h budget k)
-
 -- by an order, which has the bound or, where it is 0, none
-module _ (picks : List ℕ) (k : ℕ) (g : List Instruction) (tables links flags held ledger' cells' : List ℕ) (table' : List Range) (ledger cells : List ℕ) (table : List Range) (nexts marks : List ℕ) (used budget : ℕ) (r a : Answer) (right : Arities g tables) where
-  abbrev Left : ℕ → Answer → Type 0
-  Left n b =
-      Tells n picks budget g (arrays_in tables) (length ledger / token_width) (length cells / cell_width) table (state_in ledger cells used) b ledger' cells' table'
-      × Fits b ledger' cells' ledger cells
+module _ (picks : List ℕ) (k : ℕ) (g : List Instruction) (tables links flags ledger' cells' : List ℕ) (table' : List Range) (ledger cells : List ℕ) (used budget : ℕ) (t : List Range) (r : Answer) where
+  abbrev over : Order → Tabled Refusal Tag Range ℤ
+  over order = end_over order picks g tables ledger cells used budget t
 
-  as_it_ended : (order : Order) → (k ≡ 0) × ByPicks order picks → RanOver (end_over order picks g tables ledger cells used budget table) r g tables links flags ledger' cells' table' used ledger cells → a ≡ r → Left k a
-  as_it_ended order by o h =
-      subst (λ (n : ℕ). Left n a) (sym by.0)
-      (subst (λ (b : Answer). Left 0 b) (sym h) (tells_plain order picks by.1 g tables links flags ledger' cells' table' ledger cells table used budget r o, fits_left o.proceeded))
+  abbrev Told : ℕ → Type 0
+  Told n = Tells n picks budget g (arrays_in tables) (length ledger / token_width) (length cells / cell_width) t (state_in ledger cells used) r ledger' cells' table'
 
-  pub left_by_lem : (order : Order) → ByBound order picks k → RanOver (end_over order picks g tables ledger cells used budget table) r g tables links flags ledger' cells' table' used ledger cells
-      → Bounding order g tables flags ledger' r.tokens nexts held marks → SettledBy order tables flags held ledger' r a → Left k a
-  left_by_lem Oldest by o b h = as_it_ended Oldest by o h
-  left_by_lem Picks by o b h = as_it_ended Picks by o h
-  left_by_lem Log by o b h = as_it_ended Log by o h
-  left_by_lem (Free j) by o b h =
-      let p = settled_end g j tables links flags held ledger' cells' ledger cells used _ r a right o.proceeded b.kept.decided h in
-      subst (λ (n : ℕ). Left n a) by.0 (tells_bounded j picks g tables links flags ledger' cells' table' ledger cells table used budget r o a p, fits_left p)
+  tells_plain : (order : Order) → (k ≡ 0) × ByPicks order picks → Proceeded (over order).ended r g tables links flags ledger' cells' used ledger cells → (over order).table ≡ table' → Told k
+  tells_plain order by p tabled =
+      let m = length ledger / token_width in
+      let q = length cells / cell_width in
+      subst Told (sym by.0)
+      (λ s h. as_ranges r (range_end 0 picks budget g (arrays_in tables) m q s) (over order) table' p tabled
+      (told_plain g (arrays_in tables) m q (picks_of picks) t s (state_in ledger cells used) h budget (chooser_for order picks g tables ledger cells) (by.1 g (arrays_in tables) m q)))
+
+  tells_bounded : (j : ℕ) → Proceeded (settled_over j g tables ledger cells (over (Free j))).ended r g tables links flags ledger' cells' used ledger cells → (over (Free j)).table ≡ table' → Told j
+  tells_bounded j p tabled s h =
+      let m = length ledger / token_width in
+      let q = length cells / cell_width in
+      as_ranges r (range_end j picks budget g (arrays_in tables) m q s) (settled_over j g tables ledger cells (over (Free j))) table' p tabled
+      (told_bounded g (arrays_in tables) m q (picks_of picks) t s (state_in ledger cells used) h budget j)
+
+  told_by : (order : Order) → ByBound order picks k → Proceeded (settled_by order g tables ledger cells (over order).ended) r g tables links flags ledger' cells' used ledger cells → (over order).table ≡ table' → Told k
+  told_by Oldest by p tabled = tells_plain Oldest by p tabled
+  told_by Picks by p tabled = tells_plain Picks by p tabled
+  told_by Log by p tabled = tells_plain Log by p tabled
+  told_by (Free j) by p tabled = subst Told by.0 (tells_bounded j p tabled)
+
+  -- the engine's loop by the operation over ranges
+  pub loop_tells : (order : Order) → ByBound order picks k
+      → Proceeded (settled_by order g tables ledger cells (end_keeping ranges_ask ranges_keep order picks g tables ledger cells used budget t).ended) r g tables links flags ledger' cells' used ledger cells
+      → table' ≡ (end_keeping ranges_ask ranges_keep order picks g tables ledger cells used budget t).kept → Told k
+  loop_tells order by p kept =
+      let same = end_handles order picks g tables ledger cells used budget t in
+      told_by order by
+      (subst (λ (e : End Refusal Tag ℤ). Proceeded (settled_by order g tables ledger cells e) r g tables links flags ledger' cells' used ledger cells) (ap (λ (x : Kept (List Range) Refusal Tag ℤ). x.ended) same) p)
+      (sym (kept ∙ ap (λ (x : Kept (List Range) Refusal Tag ℤ). x.kept) same))
+
+pub fits_left : {e : End Refusal Tag ℤ} {r : Answer} {g : List Instruction} {tables links flags ledger' cells' : List ℕ} {used : ℕ} {ledger cells : List ℕ}
+    → Proceeded e r g tables links flags ledger' cells' used ledger cells → Fits r ledger' cells' ledger cells
+fits_left p = record { room = matching_room p.running.matching; size = p.size; cell_size = p.cell_size }
 
 -- ---- from inputs
 
@@ -135,10 +137,10 @@ module _ (graph arrays handles : List ℕ) {tables links flags ledger ledger₁ 
       let then = length-map (all_rows token_width Tokens.decode_token handles) token_held ∙ length_rows token_width Tokens.decode_token (length handles / token_width) handles in
       omega (arith, first, now, then)
 
-  pub told_first : (k : ℕ) (picks : List ℕ) (budget : ℕ) (table : List Range) (r : Answer) (ledger' cells' : List ℕ) (table' : List Range)
-      → Tells k picks budget (graph_of graph) (arrays_in tables) (length ledger₁ / token_width) (length cells₁ / cell_width) table (state_in ledger₁ cells₁ used) r ledger' cells' table'
-      → Tells k picks budget (graph_of graph) (arrays_of arrays) (length ledger / token_width) (length cells / cell_width) table (first_state handles (length cells / cell_width)) r ledger' cells' table'
-  told_first k picks budget table r ledger' cells' table' h =
+  pub told_first : (k : ℕ) (picks : List ℕ) (budget : ℕ) (t : List Range) (r : Answer) (ledger' cells' : List ℕ) (table' : List Range)
+      → Tells k picks budget (graph_of graph) (arrays_in tables) (length ledger₁ / token_width) (length cells₁ / cell_width) t (state_in ledger₁ cells₁ used) r ledger' cells' table'
+      → Tells k picks budget (graph_of graph) (arrays_of arrays) (length ledger / token_width) (length cells / cell_width) t (first_state handles (length cells / cell_width)) r ledger' cells' table'
+  told_first k picks budget t r ledger' cells' table' h =
       subst (λ (a : List NamedArray). T a (length ledger) (length cells) first) b.named
       (subst (λ (l : ℕ). T (arrays_in tables) l (length cells) first) b.size
       (subst (λ (c : ℕ). T (arrays_in tables) (length ledger₁) c first) b.cell_size
@@ -148,7 +150,7 @@ module _ (graph arrays handles : List ℕ) {tables links flags ledger ledger₁ 
       first = first_state handles (length cells / cell_width)
 
       T : List NamedArray → (l c : ℕ) → State Tag ℤ → Type 0
-      T a l c u = Tells k picks budget (graph_of graph) a (l / token_width) (c / cell_width) table u r ledger' cells' table'
+      T a l c u = Tells k picks budget (graph_of graph) a (l / token_width) (c / cell_width) t u r ledger' cells' table'
 
 -- ---- in bytes
 
@@ -188,18 +190,19 @@ accepted_in graph arrays handles own store ledger cells o s a =
     subst (λ (x : ℕ). Accepted graph arrays handles x store) (sym o) (subst (λ (y : ℕ). Accepted graph arrays handles (own_bytes ledger) y) (sym s) a)
 
 -- said of the lengths of the lent buffers
-pub leaves : (k : ℕ) (picks : List ℕ) (budget : ℕ) (graph arrays handles : List ℕ) (table : List Range) (own store ledger cells : List ℕ) (r : Answer) (own' store' : List ℕ) (table' : List Range) (ledger' cells' : List ℕ) → AsManyHandles (length own) (length store) (length ledger) (length cells)
-    → Tells k picks budget (graph_of graph) (arrays_of arrays) (length own / token_width) (length store / cell_width) table (first_state handles (length store / cell_width)) r own' store' table'
+pub leaves : (k : ℕ) (picks : List ℕ) (budget : ℕ) (graph arrays handles : List ℕ) (t : List Range) (own store ledger cells : List ℕ) (r : Answer) (own' store' : List ℕ) (table' : List Range) (ledger' cells' : List ℕ)
+    → AsManyHandles (length own) (length store) (length ledger) (length cells)
+    → Tells k picks budget (graph_of graph) (arrays_of arrays) (length own / token_width) (length store / cell_width) t (first_state handles (length store / cell_width)) r own' store' table'
     → ledger' ≡ written_over encode_range (tokens_meant table' (tokens r.tokens own')) ledger
     → cells' ≡ written_over encode_range_cell (cells_meant table' (cells_in store')) cells
-    → Leaves k picks budget graph arrays handles table r ledger cells ledger' cells'
-leaves k picks budget graph arrays handles table own store ledger cells r own' store' table' ledger' cells' many tells l c s h =
+    → Leaves k picks budget graph arrays handles t r ledger cells ledger' cells'
+leaves k picks budget graph arrays handles t own store ledger cells r own' store' table' ledger' cells' many tells l c s h =
     written_as _ r own' store' table' ledger cells ledger' cells' (lent s h) l c
   where
-    lent : Tells k picks budget (graph_of graph) (arrays_of arrays) (range_capacity_of (length ledger)) (length cells / range_cell_width) table (first_state handles (length cells / range_cell_width)) r own' store' table'
+    lent : Tells k picks budget (graph_of graph) (arrays_of arrays) (range_capacity_of (length ledger)) (length cells / range_cell_width) t (first_state handles (length cells / range_cell_width)) r own' store' table'
     lent =
-        subst (λ (p : ℕ). Tells k picks budget (graph_of graph) (arrays_of arrays) p (length cells / range_cell_width) table (first_state handles (length cells / range_cell_width)) r own' store' table') many.tokens
-        (subst (λ (q : ℕ). Tells k picks budget (graph_of graph) (arrays_of arrays) (length own / token_width) q table (first_state handles q) r own' store' table') many.cell_count tells)
+        subst (λ (p : ℕ). Tells k picks budget (graph_of graph) (arrays_of arrays) p (length cells / range_cell_width) t (first_state handles (length cells / range_cell_width)) r own' store' table') many.tokens
+        (subst (λ (q : ℕ). Tells k picks budget (graph_of graph) (arrays_of arrays) (length own / token_width) q t (first_state handles q) r own' store' table') many.cell_count tells)
 
 -- ---- the inputs
 
@@ -243,17 +246,18 @@ module _ (graph arrays inputs : List ℕ) (ledger cells : ℕ) (lent : LentToRan
     cell_records = (omega arith, omega (arith, lent.few_cells));
   }
 
-  -- the handles stand for the first state over ranges
-  pub inputs_stand : (table : List Range) → table ≡ first_table inputs → (n : ℕ) → StandsFor table (first_ranges inputs n) (first_state (handles_of inputs) n)
-  inputs_stand table ranges n =
-      subst (λ (x : List Range). StandsFor x (first_ranges inputs n) (first_state (handles_of inputs) n)) (sym ranges)
-      (subst (λ (u : State Tag ℤ). StandsFor (first_table inputs) (first_ranges inputs n) u) (sym (first_state_lem (graph_of graph) (range_capacity_of ledger) n inputs lent.few_inputs passed))
-      (first_stands (graph_of graph) (range_capacity_of ledger) n inputs passed))
+  module _ (table : List Range) (ranges : table ≡ first_table inputs) where
+    -- the handles stand for the first state over ranges
+    pub inputs_stand : (n : ℕ) → StandsFor table (first_ranges inputs n) (first_state (handles_of inputs) n)
+    inputs_stand n =
+        subst (λ (x : List Range). StandsFor x (first_ranges inputs n) (first_state (handles_of inputs) n)) (sym ranges)
+        (subst (λ (u : State Tag ℤ). StandsFor (first_table inputs) (first_ranges inputs n) u) (sym (first_state_lem (graph_of graph) (range_capacity_of ledger) n inputs lent.few_inputs passed))
+        (first_stands (graph_of graph) (range_capacity_of ledger) n inputs passed))
 
--- a range of each handle, and one for the value 0
-pub length_first : (inputs : List ℕ) → length (first_table inputs) ≤ length (handles_of inputs) / token_width + 1
-unfolding first_table
-length_first inputs = omega (arith, handles_count inputs, length_rows range_token_width range_in (length inputs / range_token_width) inputs)
+    -- a range of each, and one for the value 0
+    pub ranges_few : length table ≤ length (handles_of inputs) / token_width + 1
+    unfolding first_table
+    ranges_few = omega (arith, ap length ranges, length_rows range_token_width range_in (length inputs / range_token_width) inputs, handles_count inputs)
 
 -- the buffer of the handles holds nothing else
 pub only_handles : (inputs handles handles' : List ℕ) (table : List Range) → length handles ≡ own_bytes (length inputs) → Narrow inputs handles handles' table → handles' ≡ handles_of inputs

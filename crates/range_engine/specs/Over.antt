@@ -1,6 +1,6 @@
 -- Working definition: no public promise cites it.
--- A range run over handles, from turn to turn, and what it tells of the run over ranges. Assumes nothing.
-use Rattle.std.specs.Prelude.{ℕ, ◌*◌, ◌/◌, ◌≤◌, ◌≡◌, List, [], ◌++◌, length, ℤ, pos, nat_abs, Result, Ok}
+-- A range run over handles, and what it tells of the run over ranges. Assumes nothing.
+use Rattle.std.specs.Prelude.{ℕ, ◌*◌, ◌/◌, ◌≤◌, ◌≡◌, List, length, ℤ, pos, nat_abs, Ok}
 use Rattle.record.specs.declared.array.NamedArray.{NamedArray}
 use Rattle.record.specs.declared.tag.Tag.{Tag}
 use Rattle.record.specs.declared.instruction.Instruction.{Instruction}
@@ -13,12 +13,10 @@ use Rattle.arithmetic.specs.declared.Range.{Range}
 use Rattle.arithmetic.specs.Ranges.{single}
 use Rattle.machine.specs.Machine.{Machine, State, End, by_picks}
 use Rattle.machine.specs.Bounded.{settled, run_bounded}
-use Rattle.machine.specs.Choosers.{Chosen, on_chosen}
 use Rattle.machine.specs.InStep.{RelatedState}
 use Rattle.machine.specs.Handles.{StandsAt, state_by, Tabled, run_on}
 use Rattle.rules.specs.declared.answer.Refusal.{Refusal}
 use Rattle.rules.specs.declared.answer.Answer.{Answer}
-use Rattle.rules.specs.declared.answer.Outcome as AnswerOutcome
 use Rattle.rules.specs.Check.{◌and_then◌, check_graph, check_arrays, most_cells, Checked}
 use Rattle.rules.specs.InstructionSet.{effect_in}
 use Rattle.rules.specs.Run.{picks_of, outcome_of, first_state}
@@ -26,23 +24,11 @@ use Rattle.rules.specs.Held.{held_in}
 use Rattle.rules.specs.Bounded.{and_bound}
 use Rattle.rules.specs.RangeSet.{range_machine_of}
 use Rattle.rules.specs.RangeRun.{encode_range, encode_range_cell, range_capacity_of, check_range_stores, check_range_inputs, first_ranges, RangeResult, ran_to, ranges_unless_failed}
-use Rattle.rules.specs.RangeHandles.{StepHere, meaning, step_in}
+use Rattle.rules.specs.RangeHandles.{meaning, step_in}
 use Rattle.abstraction.specs.Tables.{arrays_in}
 use Rattle.fire.specs.Running.{machine_over, state_in}
 use Rattle.engine.specs.declared.choice.Order.{Order}
-use Rattle.engine.specs.declared.turns.Fired.{Fired}
-use Rattle.engine.specs.Turns.{chooser_for, Turned, Proceeded}
-
--- ---- a turn
-
--- what the activity that is chosen adds to the table
-abbrev pub added_by : Chosen Refusal Tag → (Tag → StepHere) → List Range
-added_by chosen steps = on_chosen chosen (λ o. []) (λ a. (steps a.tag).added)
-
--- a turn of the engine in which an activity asks for what its step says; what is primed is left
-pub record TakenAs (r : Result Fired AnswerOutcome.Outcome) (g : List Instruction) (chosen : Chosen Refusal Tag) (steps : Tag → StepHere) (tables links flags ledger' cells' : List ℕ) (table' : List Range) (used : ℕ) (ledger cells : List ℕ) (table : List Range) : Type 0 where
-  pub turned : Turned r g chosen (λ τ. (steps τ).asked) tables links flags ledger' cells' used ledger cells
-  pub held : table' ≡ table ++ added_by chosen steps
+use Rattle.engine.specs.Turns.{chooser_for}
 
 -- ---- a run
 
@@ -58,11 +44,6 @@ end_over order source g tables ledger cells used budget t =
 -- the same with what is held back left out at its end
 abbrev pub settled_over : (bound : ℕ) → List Instruction → (tables ledger cells : List ℕ) → Tabled Refusal Tag Range ℤ → Tabled Refusal Tag Range ℤ
 settled_over k g tables ledger cells x = record { table = x.table; ended = settled (machine_over g tables ledger cells) (held_in g k) 0 x.ended }
-
--- a run left arrays, ledger, cells and table, and its answer tells its end
-pub record RanOver (x : Tabled Refusal Tag Range ℤ) (r : Answer) (g : List Instruction) (tables links flags ledger' cells' : List ℕ) (table' : List Range) (used : ℕ) (ledger cells : List ℕ) : Type 0 where
-  pub proceeded : Proceeded x.ended r g tables links flags ledger' cells' used ledger cells
-  pub tabled : x.table ≡ table'
 
 -- ---- in ranges
 

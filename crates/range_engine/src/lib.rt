@@ -2,8 +2,6 @@
 // ranges.
 #![tactic(auto)]
 
-pub mod turns;
-
 ghost use Rattle.std.specs.Prelude.{◌/◌, ◌+◌, ◌≤◌, ◌<◌, ◌≡◌, length};
 ghost use Rattle.record.specs.GraphRecords.{graph_of};
 ghost use Rattle.record.specs.Arrays.{arrays_of};
@@ -14,15 +12,16 @@ ghost use Rattle.start.specs.Begun.{Accepted};
 ghost use Rattle.range_engine.specs.Promise.{lent_to_run, left_by_run, RangesOn};
 ghost use Rattle.range_engine.specs.Over.{Tells, Fits, AsManyHandles, own_bytes, store_bytes, Leaves, LentToRanges, with_inputs, ranges_lent_checked};
 
-use crate::turns::Going;
 use checks::{bound, stores};
-use range_table::RangeTable;
+use engine::turns::Going;
+use engine::{choice, turns};
+use range_fire::OverRanges;
 use record::{cell, token};
 use rules::answer;
 use rules::answer::{Answer, Fault, Refusal};
 use store_flags::Flags;
 
-// From the inputs as handles, in a ledger and cells of its own.
+// From the inputs as handles, in a ledger and cells of its own: the engine's loop, by the operation over ranges. It writes no log.
 fn over_handles(
     graph: &[u8],
     arrays: &[u8],
@@ -30,17 +29,16 @@ fn over_handles(
     picks: &[u8],
     budget: usize,
     bound: usize,
-    table: &mut RangeTable,
+    over: &mut OverRanges,
     ledger: &mut [u8],
     cells: &mut [u8],
 ) -> Answer
     requires { Accepted graph.now arrays.now handles.now (length ledger.old) (length cells.old)
         × (bound < 65536)
-        × (length table.old ≤ length handles.now / token_width + 1) }
+        × (length over.old ≤ length handles.now / token_width + 1) }
     ensures tells { Tells bound picks.now budget (graph_of graph.now) (arrays_of arrays.now)
-        (length ledger.old / token_width) (length cells.old / cell_width)
-        table.old
-        (first_state handles.now (length cells.old / cell_width)) result ledger.new cells.new table.new }
+        (length ledger.old / token_width) (length cells.old / cell_width) over.old
+        (first_state handles.now (length cells.old / cell_width)) result ledger.new cells.new over.new }
     ensures fits { Fits result ledger.new cells.new ledger.old cells.old }
 {
     let mut tables = [0u16; store_enabled::TABLES_LENGTH];
@@ -56,16 +54,19 @@ fn over_handles(
         ledger,
         cells,
     );
+    let order = choice::order_under(picks, bound);
+    let mut none = [0u8; 0];
     turns::proceed(
         graph,
         &tables,
+        order,
         picks,
-        bound,
-        table,
+        over,
         &mut links,
         &mut flags,
         ledger,
         cells,
+        &mut none,
         Going { used, budget },
     )
 }
@@ -78,7 +79,7 @@ fn written(
     picks: &[u8],
     budget: usize,
     bound: usize,
-    table: &mut RangeTable,
+    over: &mut OverRanges,
     own: &mut [u8],
     store: &mut [u8],
     ledger: &mut [u8],
@@ -86,16 +87,16 @@ fn written(
 ) -> Answer
     requires { Accepted graph.now arrays.now handles.now (length own.old) (length store.old)
         × (bound < 65536)
-        × (length table.old ≤ length handles.now / token_width + 1)
+        × (length over.old ≤ length handles.now / token_width + 1)
         × AsManyHandles (length own.old) (length store.old) (length ledger.old) (length cells.old) }
-    ensures { Leaves bound picks.now budget graph.now arrays.now handles.now table.old result
+    ensures { Leaves bound picks.now budget graph.now arrays.now handles.now over.old result
         ledger.old cells.old ledger.new cells.new }
 {
     let a = over_handles(
-        graph, arrays, handles, picks, budget, bound, table, own, store,
+        graph, arrays, handles, picks, budget, bound, over, own, store,
     );
-    range_output::put_tokens(table, own, a.tokens, ledger);
-    range_output::put_cells(table, store, store.len() / cell::WIDTH, cells);
+    range_output::put_tokens(&over.table, own, a.tokens, ledger);
+    range_output::put_cells(&over.table, store, store.len() / cell::WIDTH, cells);
     a
 }
 
@@ -107,14 +108,14 @@ fn accepted(
     picks: &[u8],
     budget: usize,
     bound: usize,
-    table: &mut RangeTable,
+    over: &mut OverRanges,
     ledger: &mut [u8],
     cells: &mut [u8],
 ) -> Answer
     requires { Accepted graph.now arrays.now handles.now (own_bytes (length ledger.old)) (store_bytes (length cells.old))
         × (bound < 65536)
-        × (length table.old ≤ length handles.now / token_width + 1) }
-    ensures { Leaves bound picks.now budget graph.now arrays.now handles.now table.old result
+        × (length over.old ≤ length handles.now / token_width + 1) }
+    ensures { Leaves bound picks.now budget graph.now arrays.now handles.now over.old result
         ledger.old cells.old ledger.new cells.new }
 {
     let mut own = [0u8; 57344];
@@ -128,7 +129,7 @@ fn accepted(
         picks,
         budget,
         bound,
-        table,
+        over,
         &mut own[0..bytes],
         &mut store[0..cell_bytes],
         ledger,
@@ -155,13 +156,21 @@ fn handled(
         (with_inputs bound picks.now budget graph.now arrays.now inputs.now (length ledger.old)
         (length cells.old)) result ledger.old ledger.new cells.old cells.new }
 {
-    let mut table = range_inputs::narrow(inputs, handles);
+    let table = range_inputs::narrow(inputs, handles);
     let capacity = ledger.len() / range_output::TOKEN_WIDTH;
     let checked = range_inputs::check(graph, inputs, handles, capacity);
     match checked {
         Err(fault) => answer::refused(fault),
         Ok(()) => accepted(
-            graph, arrays, handles, picks, budget, bound, &mut table, ledger, cells,
+            graph,
+            arrays,
+            handles,
+            picks,
+            budget,
+            bound,
+            &mut OverRanges { table },
+            ledger,
+            cells,
         ),
     }
 }

@@ -18,7 +18,7 @@ step_at g tables ledger cells used t τ =
     let M = machine_over g tables ledger cells in
     on_option (operands M (look M (state_in ledger cells used)) τ) (as_is (refuse SecondToken)) (λ p. step_in g (arrays_in tables) (length cells / cell_width) t τ p.left p.right)
 
--- the step was made: what is primed is left
+-- the step was made: what is primed is left. `fire::fire` by the operation over ranges promises it (`tried`, proofs/Tried)
 pub record TriedAs (r : Result ℕ Refusal) (g : List Instruction) (τ : Tag) (x : StepHere) (tables links flags ledger' cells' : List ℕ) (table' : List Range) (used : ℕ) (ledger cells : List ℕ) (table : List Range) : Type 0 where
   pub stepped : Stepped r g τ x.asked tables links flags ledger' cells' used ledger cells
   pub held : table' ≡ table ++ x.added

@@ -15,6 +15,7 @@ ghost use Rattle.start.specs.Ended.{EndedAt};
 use engine::choice::Order;
 use engine::turns;
 use engine::turns::Going;
+use fire::Plain;
 use record::log;
 use rules::answer;
 use rules::answer::Answer;
@@ -65,6 +66,7 @@ fn accepted(
         &tables,
         Order::Log,
         log,
+        &mut Plain,
         &mut links,
         &mut flags,
         ledger,

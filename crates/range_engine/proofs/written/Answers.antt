@@ -20,4 +20,5 @@ pub returns : goal.returns
 returns c =
     let a = c.args in
     let o = c.over_handles-a in
-    leaves a.bound a.picks.now a.budget a.graph.now a.arrays.now a.handles.now a.table.now a.own.now a.store.now a.ledger.now a.cells.now o.result _ _ _ _ _ c.requires.3 o.ensures.tells c.put_tokens.ensures c.put_cells.ensures
+    leaves a.bound a.picks.now a.budget a.graph.now a.arrays.now a.handles.now a.over.now a.own.now a.store.now a.ledger.now a.cells.now o.result _ _ _ _ _ c.requires.3 o.ensures.tells
+    (rw c.over.view_is at c.put_tokens.ensures) (rw c.over.view_is at c.put_cells.ensures)
