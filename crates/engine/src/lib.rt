@@ -21,6 +21,7 @@ use crate::turns::Going;
 use checks::bound::Bounded;
 use checks::graph;
 use checks::stores::{Logged, Stores};
+use fire::Plain;
 use record::cell;
 use rules::answer;
 use rules::answer::{Answer, Fault, Refusal};
@@ -52,7 +53,7 @@ fn go_on(
 {
     let order = choice::order_under(picks, bound);
     turns::proceed(
-        graph, tables, order, picks, links, flags, ledger, cells, log, going,
+        graph, tables, order, picks, &mut Plain, links, flags, ledger, cells, log, going,
     )
 }
 

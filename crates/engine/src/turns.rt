@@ -4,12 +4,15 @@ ghost use Rattle.std.specs.Prelude.{◌/◌, ◌≤◌, ◌<◌, ◌≡◌, leng
 ghost use Rattle.record.specs.GraphRecords.{graph_of};
 ghost use Rattle.record.specs.TokensAndTags.{token_at};
 ghost use Rattle.record.specs.Widths.{token_width};
-ghost use Rattle.fire.specs.Running.{state_in, asked_in, Prepared, Running};
+ghost use Rattle.fire.specs.Running.{state_in, Prepared, Running};
+ghost use Rattle.fire.specs.Operating.{asked_by, kept_by};
 ghost use Rattle.store_flags.specs.Flags.{Under};
-ghost use Rattle.engine.specs.Turns.{chooser_for, BoundFits, HeldBeside, HeldBack, Turned, end_of, fired_by, log_noted, recorded, Proceeded, Bounding, Holding, Followed, Settled, end_by};
+ghost use Rattle.engine.specs.Turns.{chooser_for, BoundFits, HeldBeside, HeldBack, Turned, log_noted, recorded, Proceeded, Bounding, Holding, Followed, Settled};
+ghost use Rattle.engine.specs.Keeping.{kept_chosen, end_keeping, fired_keeping, settled_by};
 
 use crate::choice;
 use crate::choice::Order;
+use fire::Operate;
 use record::{log, token};
 use rules::answer;
 use rules::answer::{Answer, Outcome};
@@ -32,12 +35,13 @@ pub struct Going {
 }
 
 // The activity that is chosen fires, unless the run is at its end. No other function fires one.
-fn take_turn(
+fn take_turn<O: Operate>(
     graph: &[u8],
     tables: &Tables,
     order: Order,
     source: &[u8],
     firings: usize,
+    by: &mut O,
     links: &mut Links,
     flags: &mut Flags,
     held: &Flags,
@@ -48,12 +52,18 @@ fn take_turn(
     requires { Prepared graph.now tables.now
         × Running (graph_of graph.now) tables.now links.old flags.old ledger.old cells.old used
         × HeldBeside order flags.old (Some held.now)
-        × HeldBack order (graph_of graph.now) flags.old held.now ledger.old used }
-    ensures { Turned result (graph_of graph.now)
+        × HeldBack order (graph_of graph.now) flags.old held.now ledger.old used
+        × O.fits by.old used }
+    ensures turned { Turned result (graph_of graph.now)
         (chooser_for order source.now (graph_of graph.now) tables.now ledger.old cells.old
         firings (state_in ledger.old cells.old used))
-        (asked_in (graph_of graph.now) tables.now ledger.old cells.old used) tables.now
+        (asked_by (O.asks by.old) (graph_of graph.now) tables.now ledger.old cells.old used) tables.now
         links.new flags.new ledger.new cells.new used ledger.old cells.old }
+    ensures kept { by.new
+        ≡ kept_chosen
+        (chooser_for order source.now (graph_of graph.now) tables.now ledger.old cells.old
+        firings (state_in ledger.old cells.old used)) by.old
+        (kept_by by.old (O.keeps by.old) (graph_of graph.now) tables.now ledger.old cells.old used) }
 {
     let place = choice::choose(
         order,
@@ -66,7 +76,7 @@ fn take_turn(
         ledger,
         used,
     )?;
-    let fired = fire::fire(graph, tables, links, flags, ledger, cells, used, place);
+    let fired = fire::fire(graph, tables, by, links, flags, ledger, cells, used, place);
     match fired {
         Ok(used) => Ok(Fired { place, used }),
         Err(r) => Err(Outcome::Refused(r, place)),
@@ -121,13 +131,14 @@ pub fn follow(
     }
 }
 
-// A run goes on from a state, and notes each firing. Whoever chooses, this is the loop. The arrays of what is held back are lent; an
-// order that holds nothing back does not look at them.
-fn turns(
+// A run goes on from a state, and notes each firing. Whoever chooses, and by whatever operation, this is the loop. The arrays of what is
+// held back are lent; an order that holds nothing back does not look at them.
+fn turns<O: Operate>(
     graph: &[u8],
     tables: &Tables,
     order: Order,
     source: &[u8],
+    by: &mut O,
     links: &mut Links,
     flags: &mut Flags,
     nexts: &mut Flags,
@@ -140,15 +151,19 @@ fn turns(
 ) -> Answer
     requires { Prepared graph.now tables.now
         × Running (graph_of graph.now) tables.now links.old flags.old ledger.old cells.old going.used
-        × Bounding order (graph_of graph.now) tables.now flags.old ledger.old going.used nexts.old held.old marks.old }
+        × Bounding order (graph_of graph.now) tables.now flags.old ledger.old going.used nexts.old held.old marks.old
+        × O.fits by.old going.used }
     ensures proceeded { Proceeded
-        (end_of order source.now (graph_of graph.now) tables.now ledger.old cells.old
-        going.used going.budget) result (graph_of graph.now) tables.now links.new flags.new
+        (end_keeping O.asks O.keeps order source.now (graph_of graph.now) tables.now ledger.old cells.old
+        going.used going.budget by.old).ended result (graph_of graph.now) tables.now links.new flags.new
         ledger.new cells.new going.used ledger.old cells.old }
     ensures log_after { log.new
         ≡ recorded
-        (fired_by order source.now (graph_of graph.now) tables.now ledger.old cells.old
-        going.used going.budget) log.old }
+        (fired_keeping O.asks O.keeps order source.now (graph_of graph.now) tables.now ledger.old cells.old
+        going.used going.budget by.old) log.old }
+    ensures kept { by.new
+        ≡ (end_keeping O.asks O.keeps order source.now (graph_of graph.now) tables.now ledger.old cells.old
+        going.used going.budget by.old).kept }
     ensures bounding { Bounding order (graph_of graph.now) tables.now flags.new ledger.new result.tokens nexts.new
         held.new marks.new }
 {
@@ -156,7 +171,7 @@ fn turns(
     let mut used = going.used;
     for firings in 0..budget {
         let turned = take_turn(
-            graph, tables, order, source, firings, links, flags, held, ledger, cells, used,
+            graph, tables, order, source, firings, by, links, flags, held, ledger, cells, used,
         );
         match turned {
             Ok(fired) => {
@@ -221,12 +236,13 @@ pub fn settle(tables: &Tables, flags: &Flags, held: &Flags, ledger: &[u8], own: 
     own
 }
 
-// A run or a replay goes on from a state. No other function calls the loop, so the compiler makes it part of this one.
-pub fn proceed(
+// A run or a replay goes on from a state, by whatever operation. No other function calls the loop, so the compiler makes it part of this one.
+pub fn proceed<O: Operate>(
     graph: &[u8],
     tables: &Tables,
     order: Order,
     source: &[u8],
+    by: &mut O,
     links: &mut Links,
     flags: &mut Flags,
     ledger: &mut [u8],
@@ -234,15 +250,22 @@ pub fn proceed(
     log: &mut [u8],
     going: Going,
 ) -> Answer
-    requires { Prepared graph.now tables.now × Running (graph_of graph.now) tables.now links.old flags.old ledger.old cells.old going.used × BoundFits order }
+    requires { Prepared graph.now tables.now
+        × Running (graph_of graph.now) tables.now links.old flags.old ledger.old cells.old going.used
+        × BoundFits order
+        × O.fits by.old going.used }
     ensures proceeded { Proceeded
-        (end_by order source.now (graph_of graph.now) tables.now ledger.old cells.old
-        going.used going.budget) result (graph_of graph.now) tables.now links.new flags.new
+        (settled_by order (graph_of graph.now) tables.now ledger.old cells.old
+        (end_keeping O.asks O.keeps order source.now (graph_of graph.now) tables.now ledger.old cells.old
+        going.used going.budget by.old).ended) result (graph_of graph.now) tables.now links.new flags.new
         ledger.new cells.new going.used ledger.old cells.old }
     ensures log_after { log.new
         ≡ recorded
-        (fired_by order source.now (graph_of graph.now) tables.now ledger.old cells.old
-        going.used going.budget) log.old }
+        (fired_keeping O.asks O.keeps order source.now (graph_of graph.now) tables.now ledger.old cells.old
+        going.used going.budget by.old) log.old }
+    ensures kept { by.new
+        ≡ (end_keeping O.asks O.keeps order source.now (graph_of graph.now) tables.now ledger.old cells.old
+        going.used going.budget by.old).kept }
 {
     let mut nexts = Flags::new();
     let mut held = Flags::new();
@@ -253,13 +276,11 @@ pub fn proceed(
         );
     }
     let own = turns(
-        graph, tables, order, source, links, flags, &mut nexts, &mut held, &mut marks, ledger,
+        graph, tables, order, source, by, links, flags, &mut nexts, &mut held, &mut marks, ledger,
         cells, log, going,
     );
     match order {
         Order::Free(_) => settle(tables, flags, &held, ledger, own),
-        Order::Oldest => own,
-        Order::Picks => own,
-        Order::Log => own,
+        _ => own,
     }
 }

@@ -20,6 +20,7 @@ ghost use Rattle.profile.specs.Steps.{OneOrTwo, PlacesIn, unspent_at, profile_fr
 
 use checks::lent::Lent;
 use checks::stores::Stores;
+use fire::Plain;
 use record::token;
 use rules::answer::{Answer, Fault, Outcome, Profiled, Refusal};
 use store_chains::Links;
@@ -195,7 +196,9 @@ fn in_turn(
     for firings in 0..count {
         let place = places[firings] as usize;
         spent += operands_at(tables, ledger, place);
-        let fired = fire::fire(graph, tables, links, flags, ledger, cells, used, place);
+        let fired = fire::fire(
+            graph, tables, &mut Plain, links, flags, ledger, cells, used, place,
+        );
         match fired {
             Ok(n) => used = n,
             Err(r) => {

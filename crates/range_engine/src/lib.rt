@@ -2,28 +2,27 @@
 // ranges.
 #![tactic(auto)]
 
-pub mod turns;
-
-ghost use Rattle.std.specs.Prelude.{◌*◌, ◌/◌, ◌+◌, ◌≤◌, ◌<◌, ◌≡◌, length};
+ghost use Rattle.std.specs.Prelude.{◌/◌, ◌+◌, ◌≤◌, ◌<◌, ◌≡◌, length};
 ghost use Rattle.record.specs.GraphRecords.{graph_of};
 ghost use Rattle.record.specs.Arrays.{arrays_of};
 ghost use Rattle.record.specs.Widths.{token_width, cell_width};
 ghost use Rattle.rules.specs.Run.{first_state};
 ghost use Rattle.rules.specs.RangeRun.{check_range_stores, RangesRan};
 ghost use Rattle.start.specs.Begun.{Accepted};
-ghost use Rattle.range_table.specs.Table.{pair_width, table_of};
 ghost use Rattle.range_engine.specs.Promise.{lent_to_run, left_by_run, RangesOn};
 ghost use Rattle.range_engine.specs.Over.{Tells, Fits, AsManyHandles, own_bytes, store_bytes, Leaves, LentToRanges, with_inputs, ranges_lent_checked};
 
-use crate::turns::{Going, Ran};
 use checks::bound::Bounded;
 use checks::stores;
+use engine::turns::Going;
+use engine::{choice, turns};
+use range_fire::OverRanges;
 use record::{cell, token};
 use rules::answer;
 use rules::answer::{Answer, Fault, Refusal};
 use store_flags::Flags;
 
-// From the inputs as handles, in a ledger and cells of its own.
+// From the inputs as handles, in a ledger and cells of its own: the engine's loop, by the operation over ranges. It writes no log.
 fn over_handles(
     graph: &[u8],
     arrays: &[u8],
@@ -31,16 +30,17 @@ fn over_handles(
     picks: &[u8],
     budget: usize,
     bound: usize,
-    table: &mut [u8],
+    over: &mut OverRanges,
     ledger: &mut [u8],
     cells: &mut [u8],
-) -> Ran
-    requires { Accepted graph.now arrays.now handles.now (length ledger.old) (length cells.old) × (bound < 65536) × (2050 * pair_width ≤ length table.old) }
+) -> Answer
+    requires { Accepted graph.now arrays.now handles.now (length ledger.old) (length cells.old)
+        × (bound < 65536)
+        × (length over.old ≤ length handles.now / token_width + 1) }
     ensures tells { Tells bound picks.now budget (graph_of graph.now) (arrays_of arrays.now)
-        (length ledger.old / token_width) (length cells.old / cell_width)
-        (table_of (length handles.now / token_width + 1) table.old)
-        (first_state handles.now (length cells.old / cell_width)) result ledger.new cells.new table.new }
-    ensures fits { Fits result ledger.new cells.new table.new ledger.old cells.old table.old }
+        (length ledger.old / token_width) (length cells.old / cell_width) over.old
+        (first_state handles.now (length cells.old / cell_width)) result ledger.new cells.new over.new }
+    ensures fits { Fits result ledger.new cells.new ledger.old cells.old }
 {
     let mut tables = [0u16; store_enabled::TABLES_LENGTH];
     let mut links = [0u16; store_chains::LENGTH];
@@ -55,21 +55,20 @@ fn over_handles(
         ledger,
         cells,
     );
+    let order = choice::order_under(picks, bound);
+    let mut none = [0u8; 0];
     turns::proceed(
         graph,
         &tables,
+        order,
         picks,
-        bound,
-        table,
+        over,
         &mut links,
         &mut flags,
         ledger,
         cells,
-        Going {
-            used,
-            count: used + 1,
-            budget,
-        },
+        &mut none,
+        Going { used, budget },
     )
 }
 
@@ -81,7 +80,7 @@ fn written(
     picks: &[u8],
     budget: usize,
     bound: usize,
-    table: &mut [u8],
+    over: &mut OverRanges,
     own: &mut [u8],
     store: &mut [u8],
     ledger: &mut [u8],
@@ -89,17 +88,16 @@ fn written(
 ) -> Answer
     requires { Accepted graph.now arrays.now handles.now (length own.old) (length store.old)
         × (bound < 65536)
-        × (2050 * pair_width ≤ length table.old)
+        × (length over.old ≤ length handles.now / token_width + 1)
         × AsManyHandles (length own.old) (length store.old) (length ledger.old) (length cells.old) }
-    ensures { Leaves bound picks.now budget graph.now arrays.now handles.now table.old result
+    ensures { Leaves bound picks.now budget graph.now arrays.now handles.now over.old result
         ledger.old cells.old ledger.new cells.new }
 {
-    let ran = over_handles(
-        graph, arrays, handles, picks, budget, bound, table, own, store,
+    let a = over_handles(
+        graph, arrays, handles, picks, budget, bound, over, own, store,
     );
-    let a = ran.answer;
-    range_output::put_tokens(table, ran.count, own, a.tokens, ledger);
-    range_output::put_cells(table, ran.count, store, store.len() / cell::WIDTH, cells);
+    range_output::put_tokens(&over.table, own, a.tokens, ledger);
+    range_output::put_cells(&over.table, store, store.len() / cell::WIDTH, cells);
     a
 }
 
@@ -111,12 +109,14 @@ fn accepted(
     picks: &[u8],
     budget: usize,
     bound: usize,
-    table: &mut [u8],
+    over: &mut OverRanges,
     ledger: &mut [u8],
     cells: &mut [u8],
 ) -> Answer
-    requires { Accepted graph.now arrays.now handles.now (own_bytes (length ledger.old)) (store_bytes (length cells.old)) × (bound < 65536) × (2050 * pair_width ≤ length table.old) }
-    ensures { Leaves bound picks.now budget graph.now arrays.now handles.now table.old result
+    requires { Accepted graph.now arrays.now handles.now (own_bytes (length ledger.old)) (store_bytes (length cells.old))
+        × (bound < 65536)
+        × (length over.old ≤ length handles.now / token_width + 1) }
+    ensures { Leaves bound picks.now budget graph.now arrays.now handles.now over.old result
         ledger.old cells.old ledger.new cells.new }
 {
     let mut own = [0u8; 57344];
@@ -130,7 +130,7 @@ fn accepted(
         picks,
         budget,
         bound,
-        table,
+        over,
         &mut own[0..bytes],
         &mut store[0..cell_bytes],
         ledger,
@@ -147,25 +147,31 @@ fn handled(
     budget: usize,
     bound: usize,
     handles: &mut [u8],
-    table: &mut [u8],
     ledger: &mut [u8],
     cells: &mut [u8],
 ) -> Answer
     requires { LentToRanges graph.now arrays.now (length inputs.now) (length ledger.old) (length cells.old)
         × (bound < 65536)
-        × (length handles.old ≡ own_bytes (length inputs.now))
-        × (2050 * pair_width ≤ length table.old) }
+        × (length handles.old ≡ own_bytes (length inputs.now)) }
     ensures { RangesRan
         (with_inputs bound picks.now budget graph.now arrays.now inputs.now (length ledger.old)
         (length cells.old)) result ledger.old ledger.new cells.old cells.new }
 {
-    range_inputs::narrow(inputs, handles, table);
+    let table = range_inputs::narrow(inputs, handles);
     let capacity = ledger.len() / range_output::TOKEN_WIDTH;
     let checked = range_inputs::check(graph, inputs, handles, capacity);
     match checked {
         Err(fault) => answer::refused(fault),
         Ok(()) => accepted(
-            graph, arrays, handles, picks, budget, bound, table, ledger, cells,
+            graph,
+            arrays,
+            handles,
+            picks,
+            budget,
+            bound,
+            &mut OverRanges { table },
+            ledger,
+            cells,
         ),
     }
 }
@@ -187,7 +193,6 @@ fn with_inputs(
         (length cells.old)) result ledger.old ledger.new cells.old cells.new }
 {
     let mut handles = [0u8; 57344];
-    let mut table = [0u8; 16400];
     let bytes = inputs.len() / range_inputs::WIDTH * token::WIDTH;
     handled(
         graph,
@@ -197,7 +202,6 @@ fn with_inputs(
         budget,
         bound,
         &mut handles[0..bytes],
-        &mut table,
         ledger,
         cells,
     )

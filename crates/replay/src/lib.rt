@@ -16,6 +16,7 @@ use checks::stores::Stores;
 use engine::choice::Order;
 use engine::turns;
 use engine::turns::Going;
+use fire::Plain;
 use record::log;
 use rules::answer;
 use rules::answer::Answer;
@@ -66,6 +67,7 @@ fn accepted(
         &tables,
         Order::Log,
         log,
+        &mut Plain,
         &mut links,
         &mut flags,
         ledger,

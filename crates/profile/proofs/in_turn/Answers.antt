@@ -32,7 +32,7 @@ overflow_add-spent c =
 pub fire-fired-requires : goal.fire-fired-requires
 fire-fired-requires c =
     let n = next_here _ c.requires.0 c.requires.1 c.requires.2 c.loop-firings.invariant c.loop-firings-test.true in
-    (c.requires.0, c.loop-firings.invariant.under.running, n.standing.below, n.standing.leading)
+    (c.requires.0, c.loop-firings.invariant.under.running, n.standing.below, n.standing.leading, tt)
 
 pub loop-firings-smaller : goal.loop-firings-smaller
 loop-firings-smaller c = omega (arith, c.loop-firings-test.true)
@@ -40,12 +40,12 @@ loop-firings-smaller c = omega (arith, c.loop-firings-test.true)
 pub loop-firings-preserved : goal.loop-firings-preserved
 loop-firings-preserved c =
     let here = next_here _ c.requires.0 c.requires.1 c.requires.2 c.loop-firings.invariant c.loop-firings-test.true in
-    fired_on _ c.requires.0 c.requires.1 c.requires.2 c.loop-firings.invariant here c.operands_at-spent.ensures (rw c.in-Ok.is at c.fire-fired.ensures)
+    fired_on _ c.requires.0 c.requires.1 c.requires.2 c.loop-firings.invariant here c.operands_at-spent.ensures (rw c.in-Ok.is at c.fire-fired.ensures.stepped)
 
 pub returns-in-Err : goal.returns-in-Err
 returns-in-Err c =
     let here = next_here _ c.requires.0 c.requires.1 c.requires.2 c.loop-firings.invariant c.loop-firings-test.true in
-    cut_here _ c.requires.0 c.requires.1 c.requires.2 c.loop-firings.invariant here c.requires.3 (rw c.in-Err.is at c.fire-fired.ensures)
+    cut_here _ c.requires.0 c.requires.1 c.requires.2 c.loop-firings.invariant here c.requires.3 (rw c.in-Err.is at c.fire-fired.ensures.stepped)
 
 pub returns : goal.returns
 returns c =

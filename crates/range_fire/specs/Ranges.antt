@@ -1,34 +1,34 @@
--- What an activity's step over handles is, whatever operands it has: it fires as `commit` of what it asks for, with what it adds behind the table (`fires_step`); it names
--- cells of the store (`step_below`), and adds one range at most (`step_one`), and none that no output takes (`went_few`). Assumes nothing.
+-- Working definition: no public promise cites it.
+-- The operation over ranges is one for a firing: its step is the operation and then the new tags (`ranges_in_turn`), what it asks for is sound (`ranges_sound`), and it adds one
+-- range at most, and none that no output takes (`ranges_fit`). Assumes nothing.
 use Rattle.std.proofs.Common.{Ok}
-use Prim.Native.Nat.{ℕ, ◌+◌, ◌/◌, ◌≤◌, zero-le}
-use mathlib.Core.Path.{◌≡◌, refl, sym, ap, ◌∙◌}
-use mathlib.Core.List.{List, [], ◌++◌, map, append-nil}
+use Prim.Native.Nat.{ℕ, ◌+◌, ◌/◌, ◌≤◌, ◌<◌, zero-le}
+use mathlib.Core.Path.{◌≡◌, refl, sym, ap, subst, ◌∙◌}
+use mathlib.Core.List.{List, ◌++◌, map, append-nil}
 use mathlib.Core.Option.{Option, none, some}
 use native.Mathlib.Omega.{arith}
 use lib.ListN.{length, length-append, length-map}
 use lib.IntN.{ℤ}
-use Rattle.std.specs.Prelude.{None, Some}
+use Rattle.std.specs.Prelude.{None, Some, Result}
 use Rattle.std.specs.Prelude as code
 use Rattle.record.specs.declared.array.NamedArray.{NamedArray}
 use Rattle.record.specs.declared.tag.Tag.{Tag}
 use Rattle.record.specs.declared.instruction.Instruction.{Instruction}
 use Rattle.record.specs.declared.operation.Operation.{Operation}
 use Rattle.record.specs.declared.operation.Operation.TheVariants as Operations
-use Rattle.record.specs.GraphRecords.{graph_of, operation_of}
+use Rattle.record.specs.GraphRecords.{graph_of, instruction_in, operation_of}
 use Rattle.record.specs.TokensAndTags.{tokens}
 use Rattle.record.specs.TokensAndTags as Tokens
-use Rattle.record.specs.Widths.{token_width, cell_width}
+use Rattle.record.specs.Widths.{token_width, cell_width, graph_width}
 use Rattle.buffer.proofs.Tables.{length_rows}
 use Rattle.arithmetic.specs.declared.Range.{Range}
 use Rattle.arithmetic.specs.Ranges.{single, range_of}
 use Rattle.machine.specs.Machine.{Key, Machine, StateOf, EffectOf, Effect, Operands, refuse, fired, output, changed, on_option, look, operands, commit}
 use Rattle.machine.specs.Orders.{CellsBelow, Distinct, effect_keys}
-use Rattle.machine.specs.InStep.{Over}
-use Rattle.machine.specs.Handles.{Step, Tried, fire_on, try_step}
 use Rattle.machine.proofs.View.{DeltaOf, delta_of, change}
 use Rattle.machine.proofs.Store.{Answer, commit_result}
 use Rattle.machine.proofs.Reached.{keys_known}
+use Rattle.rules.specs.declared.answer.Refusal.{Refusal}
 use Rattle.rules.specs.declared.answer.Refusal.TheVariants.{SecondToken}
 use Rattle.rules.specs.Check.{instruction_at, check_graph}
 use Rattle.rules.specs.InstructionSet.{all_under}
@@ -36,30 +36,46 @@ use Rattle.rules.specs.Run.{token_held}
 use Rattle.rules.specs.RangeHandles.{StepHere, as_is, meaning, send_new, range_step, step_in}
 use Rattle.rules.proofs.RangeHandles.{steps_add_few}
 use Rattle.abstraction.specs.Tables.{arrays_in}
+use Rattle.fire_effect.specs.Effects.{new_tags_of, then_tags}
+use Rattle.fire_effect.proofs.Passed.{in_bytes}
 use Rattle.fire.specs.Running.{machine_over, state_in, Running, Went}
-use Rattle.range_effect.proofs.Laws.{asked_fine}
+use Rattle.fire.specs.Operating.{Asks, Keeps, asked_by, kept_by, InTurn, AllSound, FitsAfter}
+use Rattle.range_effect.specs.Asked.{ask_of}
+use Rattle.range_effect.proofs.Laws.{step_parted, asked_fine}
 use Rattle.range_fire.specs.Tried.{step_at}
 
--- ---- over any machine
+-- ---- in turn
 
-module _ (M : Machine) (W : Type 0) (effect : M.Tag → W → W → Effect M.Refusal M.Tag W) (signal : W)
-    (step : List M.Value → M.Tag → W → W → Step M.Refusal M.Tag M.Value W) where
-  abbrev N : Machine
-  N = Over M W effect signal
+-- what a step over handles asks for, and the table after it
+abbrev pub ranges_ask : List Range → Asks
+ranges_ask t g named cells τ a b = (step_in g named cells t τ a b).asked
 
-  abbrev step_by : List M.Value → M.Tag → Option (Operands W) → Step M.Refusal M.Tag M.Value W
-  step_by t τ q = on_option q (record { added = []; asked = refuse M.second_token }) (λ p. step t τ p.left p.right)
+abbrev pub ranges_keep : List Range → Keeps (List Range)
+ranges_keep t g named cells τ a b = t ++ (step_in g named cells t τ a b).added
 
-  pub fires_step : (t : List M.Value) (u : StateOf N) (τ : M.Tag)
-      → fire_on M W effect signal step t u τ ≡ record { table = t ++ (step_by t τ (operands N (look N u) τ)).added; result = commit N u τ (step_by t τ (operands N (look N u) τ)).asked }
-  unfolding fire_on commit
-  fires_step t u τ = go (operands N (look N u) τ)
-    where
-      go : (q : Option (Operands W)) → ◌≡◌ {A = Tried M.Refusal M.Tag M.Value W}
-          (on_option q (record { table = t; result = commit N u τ (refuse M.second_token) }) (λ p. try_step M W effect signal step t u τ (step t τ p.left p.right)))
-          (record { table = t ++ (step_by t τ q).added; result = commit N u τ (step_by t τ q).asked })
-      go none = λ i. record { table = sym (append-nil t) i; result = commit N u τ (refuse M.second_token) }
-      go (some p) = refl
+module _ (t : List Range) where
+  in_two : (graph : List ℕ) (named : List NamedArray) (cells : ℕ) (τ : Tag) (a b : ℤ) → τ.instruction < length graph / graph_width
+      → step_in (graph_of graph) named cells t τ a b
+      ≡ (let r = instruction_in graph τ.instruction in
+      let o = operation_of r.code in
+      record { added = (ask_of o named r.constant cells t a b).added; asked = then_tags (ask_of o named r.constant cells t a b).operated (new_tags_of o (graph_of graph) τ r (meaning t b).low) })
+  unfolding step_in
+  in_two graph named cells τ a b inside =
+      let r = instruction_in graph τ.instruction in
+      rw (in_bytes graph τ.instruction inside) (step_parted (operation_of r.code) (graph_of graph) named cells t τ r a b)
+
+  pub ranges_in_turn : InTurn (λ o named k cells a b. (ask_of o named k cells t a b).operated) (λ o named k cells a b. t ++ (ask_of o named k cells t a b).added) (λ b. (meaning t b).low) (ranges_ask t) (ranges_keep t)
+  ranges_in_turn = record {
+    asked = λ graph named cells τ a b inside. ap (λ (x : StepHere). x.asked) (in_two graph named cells τ a b inside);
+    kept = λ graph named cells τ a b inside. ap (λ (x : StepHere). t ++ x.added) (in_two graph named cells τ a b inside);
+  }
+
+  pub ranges_sound : AllSound (ranges_ask t)
+  ranges_sound graph passed named cells τ a b =
+      let f = asked_fine graph passed named cells τ t a b in
+      record { arrives = f.arrives; cells_below = f.cells_below; reads_for_some = f.reads_for_some }
+
+-- ---- a firing adds few
 
 -- a firing adds as many tokens as the effect has outputs
 counted : (M : Machine) (s : StateOf M) (τ : M.Tag) (e : EffectOf M) (x : StateOf M) → Distinct M s.tokens → CellsBelow (length s.cells) e → commit M s τ e ≡ fired x
@@ -74,7 +90,7 @@ counted M s τ e x distinct below h = go (delta_of M e) refl (rw h at (commit_re
         ap length a.listed ∙ length-append olds outs
         ∙ omega (arith, length-map s.tokens (changed (change M τ d)), length-map d.keys (output a.sent), ap length (keys_known M e d f))
 
--- ---- over the rules
+-- ---- what a step over handles adds
 
 one_new : (t : List Range) (q : code.Option Range) (keys : List (Key Tag)) → length (send_new t q keys).added ≤ 1
 unfolding send_new
@@ -141,3 +157,32 @@ module _ (graph : List ℕ) (passed : check_graph graph ≡ Ok tt) (tables ledge
       let before : length (map token_held (tokens used ledger)) ≡ used = length-map (tokens used ledger) token_held ∙ length_rows token_width Tokens.decode_token used ledger in
       let after : length (map token_held (tokens n ledger')) ≡ n = length-map (tokens n ledger') token_held ∙ length_rows token_width Tokens.decode_token n ledger' in
       omega (arith, all, before, after, step_few)
+
+-- ---- what is kept
+
+module _ (g : List Instruction) (tables ledger cells : List ℕ) (used : ℕ) (t : List Range) (τ : Tag) where
+  abbrev its_operands : Option (Operands ℤ)
+  its_operands = let M = machine_over g tables ledger cells in operands M (look M (state_in ledger cells used)) τ
+
+  abbrev steps : Operands ℤ → StepHere
+  steps p = step_in g (arrays_in tables) (length cells / cell_width) t τ p.left p.right
+
+  pub asked_there : asked_by (ranges_ask t) g tables ledger cells used τ ≡ (step_at g tables ledger cells used t τ).asked
+  asked_there = go its_operands
+    where
+      go : (q : Option (Operands ℤ)) → on_option q (refuse SecondToken) (λ p. (steps p).asked) ≡ (on_option q (as_is (refuse SecondToken)) steps).asked
+      go none = refl
+      go (some p) = refl
+
+  pub kept_there : kept_by t (ranges_keep t) g tables ledger cells used τ ≡ t ++ (step_at g tables ledger cells used t τ).added
+  kept_there = go its_operands
+    where
+      go : (q : Option (Operands ℤ)) → on_option q t (λ p. t ++ (steps p).added) ≡ t ++ (on_option q (as_is (refuse SecondToken)) steps).added
+      go none = sym (append-nil t)
+      go (some p) = refl
+
+pub ranges_fit : (t : List Range) → FitsAfter (λ l used. length l ≤ used + 1) t (ranges_ask t) (ranges_keep t)
+ranges_fit t graph passed tables links flags ledger cells links' flags' ledger' cells' used n τ now went fits =
+    let g = graph_of graph in
+    let few = went_few graph passed tables ledger cells used t τ now (subst (λ (e : Effect Refusal Tag ℤ). Went g τ e tables links' flags' ledger' cells' n used ledger cells) (asked_there g tables ledger cells used t τ) went) in
+    omega (arith, fits, few, ap length (kept_there g tables ledger cells used t τ), length-append t (step_at g tables ledger cells used t τ).added)
