@@ -100,6 +100,7 @@ fn longest_fits(first: usize, listing: &[u8], cells: &[u8], room: usize) -> bool
 
 // Whether the text is at most `room` bytes long. Where the longest one is, no line has to be made. Else
 // each line is taken off the room, since the length itself may be past what a usize holds.
+#[tactic(auto, unfolding(crate::specs::Text::printed))]
 fn fits(answer: Answer, listing: &[u8], cells: &[u8], room: usize) -> bool
     ensures { result ≡ leb (length (printed answer listing.now cells.now)) room }
 {
@@ -201,6 +202,7 @@ fn put_cells(out: &mut [u8], from: usize, cells: &[u8]) -> usize
 }
 
 // Writes the text to the start of `out`, line by line in place, and answers how long it is.
+#[tactic(auto, unfolding(crate::specs::Text::printed))]
 fn write(answer: Answer, listing: &[u8], cells: &[u8], out: &mut [u8]) -> usize
     requires { RoomForText out.old 0 (printed answer listing.now cells.now) }
     ensures { AddedText out.old out.new 0 result (printed answer listing.now cells.now) }
@@ -212,6 +214,7 @@ fn write(answer: Answer, listing: &[u8], cells: &[u8], out: &mut [u8]) -> usize
 
 // Prints an answer, the tokens of a listing and the cells that are not absent to the start of `out`, and
 // answers how many bytes were written. `out` stays untouched unless the whole text fits.
+#[tactic(auto, unfolding(crate::specs::Text::printed_of, crate::specs::Text::printed_out))]
 pub fn print(
     answer: Answer,
     listing: &[u8],

@@ -239,6 +239,7 @@ fn put_state_of(out: &mut [u8], at: usize, bits: u32, state: u8) -> usize
 }
 
 // Puts the line of the token of the record that s starts with, from its iteration on.
+#[tactic(auto, unfolding(record::specs::TokensAndTags::decode_token))]
 fn put_rest(out: &mut [u8], at: usize, small: &Small, s: &[u8]) -> usize
     requires { (token_width ≤ length s.now) × RoomForText out.old at (rest_line (Tokens.decode_token s.now)) }
     ensures { AddedText out.old out.new at result (rest_line (Tokens.decode_token s.now)) }
@@ -316,6 +317,7 @@ fn put_eights(out: &mut [u8], at: usize, text: &[u8], count: usize) -> usize
 }
 
 // Puts the line of the token of the record that s starts with; `text` starts with its path.
+#[tactic(auto, unfolding(record::specs::TokensAndTags::decode_token))]
 pub fn put_record(
     out: &mut [u8],
     at: usize,
@@ -344,6 +346,7 @@ pub fn path_of(s: &[u8]) -> Path
 }
 
 // Puts the line of a token.
+#[tactic(auto, unfolding(crate::specs::Text::token_line))]
 pub fn put_token(out: &mut [u8], at: usize, t: Token) -> usize
     requires { RoomForText out.old at (token_line t) }
     ensures { AddedText out.old out.new at result (token_line t) }
@@ -371,6 +374,7 @@ fn put_stated(out: &mut [u8], at: usize, k: usize, word: &[u8], value: i32) -> u
 }
 
 // Puts the line of cell k; an absent one has none.
+#[tactic(auto, unfolding(crate::specs::Text::cell_line))]
 pub fn put_cell(out: &mut [u8], at: usize, k: usize, cell: Cell) -> usize
     requires { RoomForText out.old at (cell_line k cell) }
     ensures { AddedText out.old out.new at result (cell_line k cell) }
@@ -411,6 +415,7 @@ fn place_in(outcome: Outcome) -> usize
 }
 
 // Puts the first line.
+#[tactic(auto, unfolding(crate::specs::Text::answer_line))]
 pub fn put_answer(out: &mut [u8], at: usize, answer: Answer) -> usize
     requires { RoomForText out.old at (answer_line answer) }
     ensures { AddedText out.old out.new at result (answer_line answer) }

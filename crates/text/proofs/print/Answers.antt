@@ -10,20 +10,12 @@ use Rattle.text.specs.Text.{printed, printed_of, printed_out}
 use Rattle.text.proofs.Lines.{from_start}
 use Rattle.text.proofs.print.Goals as goal
 
-pub fits-requires : goal.fits-requires
-unfolding printed_of printed_out
-fits-requires c = search rules
-
 pub write-requires : goal.write-requires
 unfolding printed_of printed_out
 write-requires c =
     let a = c.args in
     let t = printed a.answer a.listing.now a.cells.now in
     record { room = omega (arith, leb-true (length t) (length a.out.now) (sym c.fits.ensures ∙ c.if-fits.true)) }
-
-pub shape_of-out : goal.shape_of-out
-unfolding printed_of printed_out
-shape_of-out c = search rules
 
 pub returns-then-fits : goal.returns-then-fits
 unfolding printed_of printed_out

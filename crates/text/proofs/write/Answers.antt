@@ -33,10 +33,6 @@ put_cells-requires c =
     let r = rw (joined_append ts cs) at (room_rest (text_of_lines (ts ++ cs)) c.put_answer-head.ensures c.requires) in
     room_rest (text_of_lines cs) c.put_tokens-tokens.ensures r
 
-pub shape_of-out : goal.shape_of-out
-unfolding printed
-shape_of-out c = search rules
-
 pub returns : goal.returns
 unfolding printed
 returns c =

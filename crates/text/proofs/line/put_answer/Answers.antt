@@ -40,10 +40,6 @@ put_number-tokens-requires c =
     let q = rest_room (decimal a.tokens) (place a) (decimal a.firings) c.put_number-firings.ensures p in
     field_room (decimal (place_in a.outcome)) [] (decimal a.tokens) q
 
-pub place_in-requires : goal.place_in-requires
-unfolding answer_line
-place_in-requires c = search rules
-
 pub put_number-requires : goal.put_number-requires
 unfolding answer_line
 put_number-requires c =
@@ -51,10 +47,6 @@ put_number-requires c =
     let p = room_rest (line (firings a)) c.put_outcome-word.ensures (rw (← outcome_first a.outcome (decimal a.firings) (tokens a)) at c.requires) in
     let q = rest_room (decimal a.tokens) (place a) (decimal a.firings) c.put_number-firings.ensures p in
     rw c.place_in.ensures (rest_room (decimal (place_in a.outcome)) [] (decimal a.tokens) c.put_number-tokens.ensures q)
-
-pub shape_of-out : goal.shape_of-out
-unfolding answer_line
-shape_of-out c = search rules
 
 pub returns : goal.returns
 unfolding answer_line

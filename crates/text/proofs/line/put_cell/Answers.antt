@@ -7,21 +7,9 @@ use Rattle.text.specs.Text.{cell_line}
 use Rattle.text.proofs.Lines.{added_none}
 use Rattle.text.proofs.line.put_cell.Goals as goal
 
-pub enum_told-1 : goal.enum_told-1
-unfolding cell_line
-enum_told-1 c = search rules
-
-pub enum_told-in-Waiting : goal.enum_told-in-Waiting
-unfolding cell_line
-enum_told-in-Waiting c = search rules
-
 pub put_stated-requires : goal.put_stated-requires
 unfolding cell_line
 put_stated-requires c = rw c.in-Waiting.is at c.requires
-
-pub enum_known-cell : goal.enum_known-cell
-unfolding cell_line
-enum_known-cell c = search rules
 
 pub put_stated-requires-in-Present : goal.put_stated-requires-in-Present
 unfolding cell_line
@@ -33,17 +21,9 @@ pub returns-in-Absent : goal.returns-in-Absent
 unfolding cell_line
 returns-in-Absent c = rw c.in-Absent.is (added_none c.args.out.now c.args.at)
 
-pub shape_of-out-in-Waiting : goal.shape_of-out-in-Waiting
-unfolding cell_line
-shape_of-out-in-Waiting c = search rules
-
 pub returns-in-Waiting : goal.returns-in-Waiting
 unfolding cell_line
 returns-in-Waiting c = rw c.in-Waiting.is c.put_stated.ensures
-
-pub shape_of-out-in-Present : goal.shape_of-out-in-Present
-unfolding cell_line
-shape_of-out-in-Present c = search rules
 
 pub returns-in-Present : goal.returns-in-Present
 unfolding cell_line

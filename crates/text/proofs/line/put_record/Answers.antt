@@ -12,10 +12,6 @@ pub put_rest-requires : goal.put_rest-requires
 unfolding decode_token
 put_rest-requires c = (c.requires.token_width_in_bounds.0, after_path (decode_token c.args.s.now) c.requires.token_width_in_bounds.1 c.requires.room_for_text c.put_eights-rest.ensures)
 
-pub shape_of-out : goal.shape_of-out
-unfolding decode_token
-shape_of-out c = search rules
-
 pub returns : goal.returns
 unfolding decode_token
 returns c = whole_line (decode_token c.args.s.now) c.requires.token_width_in_bounds.1 c.put_eights-rest.ensures c.put_rest.ensures

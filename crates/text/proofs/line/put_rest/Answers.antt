@@ -10,14 +10,6 @@ use Rattle.text.proofs.TokenFields.{word, value, port, after_iteration, after_in
 use Rattle.text.proofs.Fields.{value_of}
 use Rattle.text.proofs.line.put_rest.Goals as goal
 
-pub u32_at-bits-requires : goal.u32_at-bits-requires
-unfolding decode_token
-u32_at-bits-requires c = search rules
-
-pub bounds-s-16 : goal.bounds-s-16
-unfolding decode_token
-bounds-s-16 c = search rules
-
 pub overflow_cast-s : goal.overflow_cast-s
 unfolding decode_token
 overflow_cast-s c = omega (arith, c.shared_slice_known-2-1.given 16)
@@ -29,14 +21,6 @@ put_small-iteration-requires c =
     let t = decode_token l in
     (omega (arith, c.shared_slice_known-2-1.given 16), field_room (decimal t.tag.instruction) (port t) (decimal t.tag.iteration) c.requires.1)
 
-pub u16_at-requires : goal.u16_at-requires
-unfolding decode_token
-u16_at-requires c = search rules
-
-pub overflow_cast-u16_at : goal.overflow_cast-u16_at
-unfolding decode_token
-overflow_cast-u16_at c = search rules
-
 pub put_field-instruction-requires : goal.put_field-instruction-requires
 unfolding decode_token
 put_field-instruction-requires c =
@@ -44,10 +28,6 @@ put_field-instruction-requires c =
     let t = decode_token l in
     let first = c.put_small-iteration.ensures in
     rw c.u16_at.ensures (field_room (decimal t.port) (value t) (decimal t.tag.instruction) (after_iteration t c.requires.1 first))
-
-pub bounds-s-17 : goal.bounds-s-17
-unfolding decode_token
-bounds-s-17 c = search rules
 
 pub overflow_cast-s-2 : goal.overflow_cast-s-2
 unfolding decode_token
@@ -75,10 +55,6 @@ put_bits-value-requires c =
     let third = c.put_small-port.ensures in
     rw (u, ← value_of (number32 l 20) (byte_at l 24)) (field_room (state_word t.content) [] v (after_port t c.requires.1 first pf third))
 
-pub bounds-s-24 : goal.bounds-s-24
-unfolding decode_token
-bounds-s-24 c = search rules
-
 pub put_state_of-requires : goal.put_state_of-requires
 unfolding decode_token
 put_state_of-requires c =
@@ -90,10 +66,6 @@ put_state_of-requires c =
     let third = c.put_small-port.ensures in
     let pb = rw (u, ← value_of (number32 l 20) (byte_at l 24)) at c.put_bits-value.ensures in
     rw u (after_value t c.requires.1 first pf third pb)
-
-pub shape_of-out : goal.shape_of-out
-unfolding decode_token
-shape_of-out c = search rules
 
 pub returns : goal.returns
 unfolding decode_token

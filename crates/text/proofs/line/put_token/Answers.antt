@@ -19,19 +19,11 @@ put_path-path-requires c =
     let t = c.args.t in
     field_room (decimal t.tag.iteration) (instruction t) (decimal (path_number t.tag.path)) c.requires
 
-pub overflow_cast-tag : goal.overflow_cast-tag
-unfolding token_line
-overflow_cast-tag c = search rules
-
 pub put_number-iteration-requires : goal.put_number-iteration-requires
 unfolding token_line
 put_number-iteration-requires c =
     let t = c.args.t in
     field_room (decimal t.tag.instruction) (port t) (decimal t.tag.iteration) (after_path t c.requires c.put_path-path.ensures)
-
-pub overflow_cast-tag-2 : goal.overflow_cast-tag-2
-unfolding token_line
-overflow_cast-tag-2 c = search rules
 
 pub put_number-instruction-requires : goal.put_number-instruction-requires
 unfolding token_line
@@ -39,19 +31,11 @@ put_number-instruction-requires c =
     let t = c.args.t in
     field_room (decimal t.port) (value t) (decimal t.tag.instruction) (after_iteration t (after_path t c.requires c.put_path-path.ensures) c.put_number-iteration.ensures)
 
-pub overflow_cast-t : goal.overflow_cast-t
-unfolding token_line
-overflow_cast-t c = search rules
-
 pub put_number-port-requires : goal.put_number-port-requires
 unfolding token_line
 put_number-port-requires c =
     let t = c.args.t in
     field_room (signed_decimal (value_in t.content)) (word t) (decimal t.port) (after_instruction t (after_path t c.requires c.put_path-path.ensures) c.put_number-iteration.ensures c.put_number-instruction.ensures)
-
-pub value_in-requires : goal.value_in-requires
-unfolding token_line
-value_in-requires c = search rules
 
 pub put_signed-value-requires : goal.put_signed-value-requires
 unfolding token_line
@@ -61,10 +45,6 @@ put_signed-value-requires c =
     let z = c.value_in in
     let f : SFits w32 z.result = record { sfits = z.type_inv } in
     rw (to_z-of_z f, z.ensures) (field_room (state_word t.content) [] (signed_decimal (value_in t.content)) (after_port t p c.put_number-iteration.ensures c.put_number-instruction.ensures c.put_number-port.ensures))
-
-pub state_of-requires : goal.state_of-requires
-unfolding token_line
-state_of-requires c = search rules
 
 pub put_state_of-requires : goal.put_state_of-requires
 unfolding token_line
