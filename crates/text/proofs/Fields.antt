@@ -177,9 +177,6 @@ eight_absent cells k e =
     each a b c d e f g h (suc (suc (suc (suc (suc (suc (suc zero))))))) l = absent_at cells k 7 h
     each a b c d e f g h (suc (suc (suc (suc (suc (suc (suc (suc j)))))))) l = absurd (omega arith)
 
-pub one_absent : (cells : List ℕ) (k : ℕ) → Cells.cell_of_record cells k ≡ Absent → AbsentFrom cells k 1
-one_absent cells k a j h = let e : k + j ≡ k = omega arith in rw e a
-
 -- so their lines are none
 pub made_passed : (cells : List ℕ) (k n : ℕ) → k + n ≤ length cells / cell_width → AbsentFrom cells k n → made (lines_of_cells cells) (k + n) ≡ made (lines_of_cells cells) k
 unfolding cell_line

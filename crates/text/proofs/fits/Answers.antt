@@ -2,7 +2,7 @@
 use Prim.Native.Nat.{ℕ, ◌+◌, ◌/◌, ◌<◌}
 use borrow.Author.Rules.{rules}
 use native.Mathlib.Omega.{arith}
-use mathlib.Core.Path.{◌≡◌, refl, sym, ◌∙◌, ap}
+use mathlib.Core.Path.{◌≡◌, sym, ◌∙◌, ap}
 use mathlib.Core.List.{List}
 use borrow.Author.Tests.{leb-true, le-leb, lt-leb}
 use lib.ListN.{length}
@@ -27,14 +27,6 @@ returns-then-longest_fits c =
     let m = c.most_first in
     let t = leb-true (m.result + most_bytes_of a.listing.now a.cells.now) a.room (sym c.longest_fits.ensures ∙ c.if-longest_fits.true) in
     sym (le-leb ((length (printed c.args.answer c.args.listing.now c.args.cells.now))) a.room (omega (arith, t, m.ensures.0, bytes_within a.answer a.listing.now a.cells.now bl bc (search rules))))
-
-pub loop-j-init : goal.loop-j-init
-unfolding printed
-loop-j-init c = (omega arith, refl, omega arith)
-
-pub slice_bounds-put_line-end : goal.slice_bounds-put_line-end
-unfolding printed
-slice_bounds-put_line-end c = sym c.loop-j.invariant.1
 
 pub put_line-k-requires : goal.put_line-k-requires
 unfolding printed

@@ -2,9 +2,6 @@
 use Rattle.text.proofs.Whole.{line_token, line_cell}
 use Rattle.text.proofs.put_line.Goals as goal
 
-pub put_answer-requires : goal.put_answer-requires
-put_answer-requires c = rw c.if-j-eq0.true at c.requires.1
-
 pub put_token-requires : goal.put_token-requires
 put_token-requires c =
     let a = c.args in
@@ -16,9 +13,6 @@ put_cell-requires c =
     let a = c.args in
     let e = line_cell a.answer a.listing.now a.cells.now a.j c.if-j-tokens.false c.requires.0 in
     rw c.cell_at.ensures (rw e at c.requires.1)
-
-pub returns-then-j-eq0 : goal.returns-then-j-eq0
-returns-then-j-eq0 c = rw c.if-j-eq0.true c.put_answer.ensures
 
 pub returns-then-j-tokens : goal.returns-then-j-tokens
 returns-then-j-tokens c =

@@ -10,9 +10,6 @@ use Rattle.text.proofs.line.put_bits.Goals as goal
 pub put_field-requires : goal.put_field-requires
 put_field-requires c = rw (bits_up c.args.bits c.if-bits-lt2147483648.true) at c.requires
 
-pub put_byte-k-requires : goal.put_byte-k-requires
-put_byte-k-requires c = let p = rw (bits_down c.args.bits (omega arith) c.if-bits-lt2147483648.false) at c.requires in omega (arith, p.room)
-
 pub put_field-requires-else-bits-lt2147483648 : goal.put_field-requires-else-bits-lt2147483648
 put_field-requires-else-bits-lt2147483648 c =
     let p = rw (bits_down c.args.bits (omega arith) c.if-bits-lt2147483648.false) at c.requires in

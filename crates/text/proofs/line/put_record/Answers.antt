@@ -1,5 +1,4 @@
 -- `text::line::put_record` meets its contract. Assumes nothing.
-use borrow.Author.Rules.{rules}
 use Rattle.record.specs.TokensAndTags.{decode_token}
 use Rattle.text.proofs.Loosely.{path_some, path_room, after_path, whole_line}
 use Rattle.text.proofs.line.put_record.Goals as goal

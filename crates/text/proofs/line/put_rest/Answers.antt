@@ -1,25 +1,13 @@
 -- `text::line::put_rest` meets its contract. Assumes nothing.
-use borrow.Author.Rules.{rules}
 use native.Mathlib.Omega.{arith}
 use mathlib.Core.List.{[]}
 use Rattle.number.specs.Number.{byte_at, number32}
 use Rattle.record.specs.TokensAndTags.{decode_token, value_in}
 use Rattle.text.specs.Text.{decimal, signed_decimal, state_word}
 use Rattle.text.proofs.Lines.{field_room}
-use Rattle.text.proofs.TokenFields.{word, value, port, after_iteration, after_instruction, after_port, after_value, rest_put}
+use Rattle.text.proofs.TokenFields.{word, value, after_iteration, after_instruction, after_port, after_value, rest_put}
 use Rattle.text.proofs.Fields.{value_of}
 use Rattle.text.proofs.line.put_rest.Goals as goal
-
-pub overflow_cast-s : goal.overflow_cast-s
-unfolding decode_token
-overflow_cast-s c = omega (arith, c.shared_slice_known-2-1.given 16)
-
-pub put_small-iteration-requires : goal.put_small-iteration-requires
-unfolding decode_token
-put_small-iteration-requires c =
-    let l = c.args.s.now in
-    let t = decode_token l in
-    (omega (arith, c.shared_slice_known-2-1.given 16), field_room (decimal t.tag.instruction) (port t) (decimal t.tag.iteration) c.requires.1)
 
 pub put_field-instruction-requires : goal.put_field-instruction-requires
 unfolding decode_token
@@ -28,10 +16,6 @@ put_field-instruction-requires c =
     let t = decode_token l in
     let first = c.put_small-iteration.ensures in
     rw c.u16_at.ensures (field_room (decimal t.port) (value t) (decimal t.tag.instruction) (after_iteration t c.requires.1 first))
-
-pub overflow_cast-s-2 : goal.overflow_cast-s-2
-unfolding decode_token
-overflow_cast-s-2 c = omega (arith, c.shared_slice_known-3-1.given 17)
 
 pub put_small-port-requires : goal.put_small-port-requires
 unfolding decode_token

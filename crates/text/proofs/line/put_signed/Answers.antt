@@ -1,5 +1,4 @@
 -- `text::line::put_signed` meets its contract: the bits of a number below 0 lack its magnitude of 2 to the 32 (proofs/Decimals). Assumes nothing.
-use native.Mathlib.Omega.{arith}
 use Prim.Native.Nat.{◌-◌}
 use mathlib.Core.Path.{◌≡◌}
 use mathlib.Core.List.{[], ◌∷◌, ◌++◌}
@@ -15,13 +14,6 @@ put_number-requires c =
     let b = c.bits-bits in
     let e : b.result ≡ bits_of c.args.value = rw (to_z-of_z c.ranges.value) at b.ensures in
     rw (signed_up c.args.value b.result c.ranges.value e c.if-bits-lt2147483648.true) at c.requires
-
-pub put_byte-k-requires : goal.put_byte-k-requires
-put_byte-k-requires c =
-    let b = c.bits-bits in
-    let e : b.result ≡ bits_of c.args.value = rw (to_z-of_z c.ranges.value) at b.ensures in
-    let p = rw (signed_down c.args.value b.result c.ranges.value e c.if-bits-lt2147483648.false) at c.requires in
-    omega (arith, p.room)
 
 pub put_number-requires-else-bits-lt2147483648 : goal.put_number-requires-else-bits-lt2147483648
 put_number-requires-else-bits-lt2147483648 c =

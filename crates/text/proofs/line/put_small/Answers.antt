@@ -6,20 +6,11 @@ use Rattle.text.proofs.Lines.{both, room_end}
 use Rattle.text.proofs.Fields.{two, three, long1, long2, long3}
 use Rattle.text.proofs.line.put_small.Goals as goal
 
-pub put_byte-k-requires : goal.put_byte-k-requires
-put_byte-k-requires c = let n = c.args.n in omega (arith, room_end (decimal n) 32 c.requires.1)
-
 pub put_byte-requires : goal.put_byte-requires
 put_byte-requires c = let a = c.put_byte-k.ensures in let n = c.args.n in omega (arith, long1 n, room_end (decimal n) 32 c.requires.1, a.place, a.kept)
 
 pub returns-then-n-lt10 : goal.returns-then-n-lt10
 returns-then-n-lt10 c = rw (decimal_digit c.args.n c.if-n-lt10.true) (both c.put_byte-k.ensures c.put_byte.ensures)
-
-pub bytes-requires : goal.bytes-requires
-bytes-requires c = c.requires.0
-
-pub put_byte-second-requires : goal.put_byte-second-requires
-put_byte-second-requires c = let n = c.args.n in omega (arith, room_end (decimal n) 32 c.requires.1)
 
 pub put_byte-third-requires : goal.put_byte-third-requires
 put_byte-third-requires c =
