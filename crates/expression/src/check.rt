@@ -19,6 +19,7 @@ fn good_length(len: usize) -> bool
 }
 
 // Whether record i is as it may be, where the table has what the records before it name.
+#[tactic(auto, unfolding(rules::specs::Expression::good_term, rules::specs::Expression::good_operation))]
 fn good_term(named: &[bool; MOST], i: usize, t: Term) -> bool
     requires { i ≤ most_terms }
     ensures { (earlier : List Term) → MarkedNamed earlier named.now → result ≡ good_term earlier i t }
@@ -70,8 +71,9 @@ fn all_named(expression: &[u8], named: &[bool; MOST]) -> Result<(), Fault>
     requires { (is_expression_length (length expression.now) ≡ true) × MarkedNamed (expression_of expression.now) named.now }
     ensures { result ≡ check_named (expression_of expression.now) }
 {
-    for j in 0..expression.len() / term::WIDTH - 1 {
-        if !named[j] {
+    let last = expression.len() / term::WIDTH - 1;
+    for (j, &is_named) in named[0..last].iter().enumerate() {
+        if !is_named {
             return Err(Refusal::BadExpression.at(j));
         }
     }

@@ -24,7 +24,7 @@ const NOWHERE: Destination = Destination {
     port: 0,
 };
 
-// An instruction without a constant that sends to one destination.
+// An instruction without a constant that sends to one destination. It goes by the code, as the definition `sending` does.
 fn sending(code: u8, to: Destination) -> Instruction
     ensures { result ≡ sending code to }
 {

@@ -12,7 +12,7 @@ use rules::answer;
 use rules::answer::Answer;
 use std::io;
 
-// Record i of an expression.
+// Record i of an expression. The kind is a number, since one that no expression has is tried too.
 fn put_term(expression: &mut [u8], i: usize, kind: u8, left: u8, right: u8)
     requires { i < length expression.old / term_width }
 {
