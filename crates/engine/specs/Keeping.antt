@@ -1,22 +1,25 @@
 -- Working definition: no public promise cites it.
 -- A run by any operation, which may keep something from one firing to the next, in the terms of the machine. By the plain one, which keeps nothing, it is `run_from`
 -- (proofs/Keeping). Assumes nothing.
-use Rattle.std.specs.Prelude.{ℕ, zero, suc, ◌/◌, List, [], ◌∷◌, length, ℤ}
+use Rattle.std.specs.Prelude.{ℕ, zero, suc, ◌/◌, ◌≡◌, List, [], ◌∷◌, length, ℤ}
 use Rattle.record.specs.declared.tag.Tag.{Tag}
 use Rattle.record.specs.declared.instruction.Instruction.{Instruction}
+use Rattle.record.specs.GraphRecords.{graph_of}
 use Rattle.record.specs.Widths.{cell_width}
 use Rattle.machine.specs.Machine.{Machine, StateOf, EffectOf, FiredOf, Activity, fired, not_fired, refused, End, commit, end}
 use Rattle.machine.specs.Bounded.{settled}
 use Rattle.machine.specs.Choosers.{Chosen, on_chosen, Chooser, rests_at}
 use Rattle.machine.specs.Sequences.{if_fired}
 use Rattle.rules.specs.declared.answer.Refusal.{Refusal}
+use Rattle.rules.specs.declared.answer.Answer.{Answer}
 use Rattle.rules.specs.Held.{held_in}
 use Rattle.abstraction.specs.Tables.{arrays_in}
 use Rattle.fire.specs.Running.{machine_over, state_in}
 use Rattle.fire.specs.Operating.{Asks, Keeps, asked_with, kept_with}
+use Rattle.start.specs.Begun.{Begun}
 use Rattle.engine.specs.declared.choice.Order.{Order}
 use Rattle.engine.specs.declared.choice.Order.TheVariants as Orders
-use Rattle.engine.specs.Turns.{chooser_for}
+use Rattle.engine.specs.Turns.{chooser_for, recorded, Proceeded}
 
 -- the end of a run, and what is kept at it
 pub record Kept (S F T W : Type 0) : Type 0 where
@@ -70,3 +73,18 @@ settled_by Orders.Oldest g tables ledger cells e = e
 settled_by Orders.Picks g tables ledger cells e = e
 settled_by Orders.Log g tables ledger cells e = e
 settled_by (Orders.Free k) g tables ledger cells e = settled (machine_over g tables ledger cells) (held_in g k) 0 e
+
+-- from the inputs: a run began, and went on to its end
+pub record FromInputs {S : Type 0} (asks : S → Asks) (keeps : S → Keeps S) (order : Order) (source : List ℕ) (budget : ℕ) (graph arrays inputs : List ℕ) (x x' : S) (r : Answer) (ledger cells log ledger' cells' log' : List ℕ) : Type 0 where
+  pub tables : List ℕ
+  pub links : List ℕ
+  pub flags : List ℕ
+  pub ledger₁ : List ℕ
+  pub cells₁ : List ℕ
+  pub used : ℕ
+  pub begun : Begun graph arrays inputs tables links flags ledger ledger₁ cells cells₁ used
+  pub links' : List ℕ
+  pub flags' : List ℕ
+  pub proceeded : Proceeded (settled_by order (graph_of graph) tables ledger₁ cells₁ (end_keeping asks keeps order source (graph_of graph) tables ledger₁ cells₁ used budget x).ended) r (graph_of graph) tables links' flags' ledger' cells' used ledger₁ cells₁
+  pub log_after : log' ≡ recorded (fired_keeping asks keeps order source (graph_of graph) tables ledger₁ cells₁ used budget x) log
+  pub kept : x' ≡ (end_keeping asks keeps order source (graph_of graph) tables ledger₁ cells₁ used budget x).kept

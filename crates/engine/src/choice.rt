@@ -178,7 +178,7 @@ fn by_free(
 }
 
 // The choice of a turn: the place of an enabled activity, unless the run is at its end. An order that holds nothing back asks for no
-// flags of held ones.
+// flags of held ones. A closure in the place of an order would be no plainer: loop and laws ask of it whether it holds back.
 pub fn choose(
     order: Order,
     source: &[u8],
@@ -212,7 +212,7 @@ fn order_of(picks: &[u8]) -> Order
     }
 }
 
-// The order of a run by picks, with a bound or, where it is 0, without one.
+// The order of a run by picks, with a bound or, where it is 0, without one: so `run` takes it, and C. Behind this the order says it.
 pub fn order_under(picks: &[u8], bound: usize) -> Order
     ensures { ByBound result picks.now bound }
 {

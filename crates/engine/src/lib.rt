@@ -29,36 +29,7 @@ use store_chains::Links;
 use store_enabled::Tables;
 use store_flags::Flags;
 
-// A run goes on from a state under picks, with a bound or, where it is 0, without one.
-fn go_on(
-    graph: &[u8],
-    tables: &Tables,
-    picks: &[u8],
-    bound: usize,
-    links: &mut Links,
-    flags: &mut Flags,
-    ledger: &mut [u8],
-    cells: &mut [u8],
-    log: &mut [u8],
-    going: Going,
-) -> Answer
-    requires { Prepared graph.now tables.now × Running (graph_of graph.now) tables.now links.old flags.old ledger.old cells.old going.used × (bound < 65536) }
-    ensures ended_at { EndedAt
-        (end_bounded bound picks.now (graph_of graph.now) tables.now ledger.old cells.old
-        going.used going.budget) result ledger.old cells.old ledger.new cells.new }
-    ensures log_after { log.new
-        ≡ recorded
-        (fired_bounded bound picks.now (graph_of graph.now) tables.now ledger.old cells.old
-        going.used going.budget) log.old }
-{
-    let order = choice::order_under(picks, bound);
-    turns::proceed(
-        graph, tables, order, picks, &mut Plain, links, flags, ledger, cells, log, going,
-    )
-}
-
-// A run that passed every check: all cells are set absent, the inputs go into the ledger, and it
-// proceeds.
+// A run that passed every check.
 fn accepted(
     graph: &[u8],
     arrays: &[u8],
@@ -79,30 +50,9 @@ fn accepted(
         (fired_from_inputs bound picks.now budget graph.now arrays.now inputs.now ledger.old
         cells.old) log.old }
 {
-    let mut tables = [0u16; store_enabled::TABLES_LENGTH];
-    let mut links = [0u16; store_chains::LENGTH];
-    let mut flags = Flags::new();
-    let used = start::begin(
-        graph,
-        arrays,
-        inputs,
-        &mut tables,
-        &mut links,
-        &mut flags,
-        ledger,
-        cells,
-    );
-    go_on(
-        graph,
-        &tables,
-        picks,
-        bound,
-        &mut links,
-        &mut flags,
-        ledger,
-        cells,
-        log,
-        Going { used, budget },
+    let order = choice::order_under(picks, bound);
+    turns::from_inputs(
+        graph, arrays, inputs, order, picks, budget, &mut Plain, ledger, cells, log,
     )
 }
 
@@ -157,12 +107,14 @@ fn resume(
     ) {
         return answer::refused(Refusal::DamagedState.at(0));
     }
+    let order = choice::order_under(picks, bound);
     let mut none = [0u8; 0];
-    let own = go_on(
+    let own = turns::proceed(
         graph,
         &tables,
+        order,
         picks,
-        bound,
+        &mut Plain,
         &mut links,
         &mut flags,
         ledger,

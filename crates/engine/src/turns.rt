@@ -8,7 +8,8 @@ ghost use Rattle.fire.specs.Running.{state_in, Prepared, Running};
 ghost use Rattle.fire.specs.Operating.{asked_by, kept_by};
 ghost use Rattle.store_flags.specs.Flags.{Under};
 ghost use Rattle.engine.specs.Turns.{chooser_for, BoundFits, HeldBeside, HeldBack, Turned, log_noted, recorded, Proceeded, Bounding, Holding, Followed, Settled};
-ghost use Rattle.engine.specs.Keeping.{kept_chosen, end_keeping, fired_keeping, settled_by};
+ghost use Rattle.engine.specs.Keeping.{kept_chosen, end_keeping, fired_keeping, settled_by, FromInputs};
+ghost use Rattle.start.specs.Begun.{Accepted};
 
 use crate::choice;
 use crate::choice::Order;
@@ -279,8 +280,56 @@ pub fn proceed<O: Operate>(
         graph, tables, order, source, by, links, flags, &mut nexts, &mut held, &mut marks, ledger,
         cells, log, going,
     );
-    match order {
-        Order::Free(_) => settle(tables, flags, &held, ledger, own),
-        _ => own,
+    if let Order::Free(_) = order {
+        settle(tables, flags, &held, ledger, own)
+    } else {
+        own
     }
+}
+
+// A run, a replay or a range run, of what passed its checks: all cells are set absent, the inputs go into the ledger, and it proceeds.
+pub fn from_inputs<O: Operate>(
+    graph: &[u8],
+    arrays: &[u8],
+    inputs: &[u8],
+    order: Order,
+    source: &[u8],
+    budget: usize,
+    by: &mut O,
+    ledger: &mut [u8],
+    cells: &mut [u8],
+    log: &mut [u8],
+) -> Answer
+    requires { Accepted graph.now arrays.now inputs.now (length ledger.old) (length cells.old)
+        × BoundFits order
+        × O.fits by.old (length inputs.now / token_width) }
+    ensures { FromInputs O.asks O.keeps order source.now budget graph.now arrays.now inputs.now by.old by.new result
+        ledger.old cells.old log.old ledger.new cells.new log.new }
+{
+    let mut tables = [0u16; store_enabled::TABLES_LENGTH];
+    let mut links = [0u16; store_chains::LENGTH];
+    let mut flags = Flags::new();
+    let used = start::begin(
+        graph,
+        arrays,
+        inputs,
+        &mut tables,
+        &mut links,
+        &mut flags,
+        ledger,
+        cells,
+    );
+    proceed(
+        graph,
+        &tables,
+        order,
+        source,
+        by,
+        &mut links,
+        &mut flags,
+        ledger,
+        cells,
+        log,
+        Going { used, budget },
+    )
 }

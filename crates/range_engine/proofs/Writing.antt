@@ -128,15 +128,6 @@ fits_left p = record { room = matching_room p.running.matching; size = p.size; c
 -- ---- from inputs
 
 module _ (graph arrays handles : List ℕ) {tables links flags ledger ledger₁ cells cells₁ : List ℕ} {used : ℕ} (b : Begun graph arrays handles tables links flags ledger ledger₁ cells cells₁ used) where
-  -- as many tokens as inputs
-  pub used_all : used ≡ length handles / token_width
-  unfolding first_state
-  used_all =
-      let first = ap (λ (s : State Tag ℤ). length s.tokens) b.state in
-      let now = length-map (tokens used ledger₁) token_held ∙ length_rows token_width Tokens.decode_token used ledger₁ in
-      let then = length-map (all_rows token_width Tokens.decode_token handles) token_held ∙ length_rows token_width Tokens.decode_token (length handles / token_width) handles in
-      omega (arith, first, now, then)
-
   pub told_first : (k : ℕ) (picks : List ℕ) (budget : ℕ) (t : List Range) (r : Answer) (ledger' cells' : List ℕ) (table' : List Range)
       → Tells k picks budget (graph_of graph) (arrays_in tables) (length ledger₁ / token_width) (length cells₁ / cell_width) t (state_in ledger₁ cells₁ used) r ledger' cells' table'
       → Tells k picks budget (graph_of graph) (arrays_of arrays) (length ledger / token_width) (length cells / cell_width) t (first_state handles (length cells / cell_width)) r ledger' cells' table'

@@ -14,13 +14,11 @@ ghost use Rattle.range_engine.specs.Over.{Tells, Fits, AsManyHandles, own_bytes,
 
 use checks::bound::Bounded;
 use checks::stores;
-use engine::turns::Going;
 use engine::{choice, turns};
 use range_fire::OverRanges;
 use record::{cell, token};
 use rules::answer;
 use rules::answer::{Answer, Fault, Refusal};
-use store_flags::Flags;
 
 // From the inputs as handles, in a ledger and cells of its own: the engine's loop, by the operation over ranges. It writes no log.
 fn over_handles(
@@ -42,33 +40,10 @@ fn over_handles(
         (first_state handles.now (length cells.old / cell_width)) result ledger.new cells.new over.new }
     ensures fits { Fits result ledger.new cells.new ledger.old cells.old }
 {
-    let mut tables = [0u16; store_enabled::TABLES_LENGTH];
-    let mut links = [0u16; store_chains::LENGTH];
-    let mut flags = Flags::new();
-    let used = start::begin(
-        graph,
-        arrays,
-        handles,
-        &mut tables,
-        &mut links,
-        &mut flags,
-        ledger,
-        cells,
-    );
     let order = choice::order_under(picks, bound);
     let mut none = [0u8; 0];
-    turns::proceed(
-        graph,
-        &tables,
-        order,
-        picks,
-        over,
-        &mut links,
-        &mut flags,
-        ledger,
-        cells,
-        &mut none,
-        Going { used, budget },
+    turns::from_inputs(
+        graph, arrays, handles, order, picks, budget, over, ledger, cells, &mut none,
     )
 }
 

@@ -15,12 +15,10 @@ ghost use Rattle.start.specs.Ended.{EndedAt};
 use checks::stores::Stores;
 use engine::choice::Order;
 use engine::turns;
-use engine::turns::Going;
 use fire::Plain;
 use record::log;
 use rules::answer;
 use rules::answer::Answer;
-use store_flags::Flags;
 
 // How many records a log of `bytes` bytes has, the last one whole or not.
 fn records_in(bytes: usize) -> usize
@@ -48,35 +46,18 @@ fn accepted(
         (names_in log.now) 0 (first_state inputs.now (length cells.old / cell_width))) result ledger.old
         cells.old ledger.new cells.new }
 {
-    let mut tables = [0u16; store_enabled::TABLES_LENGTH];
-    let mut links = [0u16; store_chains::LENGTH];
-    let mut flags = Flags::new();
-    let used = start::begin(
+    let mut none = [0u8; 0];
+    turns::from_inputs(
         graph,
         arrays,
         inputs,
-        &mut tables,
-        &mut links,
-        &mut flags,
-        ledger,
-        cells,
-    );
-    let mut none = [0u8; 0];
-    turns::proceed(
-        graph,
-        &tables,
         Order::Log,
         log,
+        records_in(log.len()),
         &mut Plain,
-        &mut links,
-        &mut flags,
         ledger,
         cells,
         &mut none,
-        Going {
-            used,
-            budget: records_in(log.len()),
-        },
     )
 }
 
