@@ -32,41 +32,45 @@ pub enum Operation {
     OnTwo(Arithmetic),
     // The right operand is the constant.
     OnConstant(Arithmetic),
+    // Any other code. No Option in its place: the rules give each instruction of any graph an effect (`effect_of`), this one too, and
+    // an Option would put a second match round each match on an operation.
     Unknown,
 }
 
-pub fn decode(code: u8) -> Operation
-    ensures { result ≡ operation_of code }
-{
-    match code {
-        1 => Operation::Copy,
-        2 => Operation::Sink,
-        3 => Operation::Out,
-        4 => Operation::Const,
-        5 => Operation::Switch,
-        6 => Operation::Gate,
-        7 => Operation::Next,
-        8 => Operation::Enter,
-        9 => Operation::Leave,
-        10 => Operation::Fetch,
-        11 => Operation::Store,
-        16 => Operation::OnTwo(Arithmetic::Add),
-        17 => Operation::OnTwo(Arithmetic::Sub),
-        18 => Operation::OnTwo(Arithmetic::Mul),
-        19 => Operation::OnTwo(Arithmetic::Div),
-        20 => Operation::OnTwo(Arithmetic::Rem),
-        21 => Operation::OnTwo(Arithmetic::Lt),
-        22 => Operation::OnTwo(Arithmetic::Le),
-        23 => Operation::OnTwo(Arithmetic::Eq),
-        32 => Operation::OnConstant(Arithmetic::Add),
-        33 => Operation::OnConstant(Arithmetic::Sub),
-        34 => Operation::OnConstant(Arithmetic::Mul),
-        35 => Operation::OnConstant(Arithmetic::Div),
-        36 => Operation::OnConstant(Arithmetic::Rem),
-        37 => Operation::OnConstant(Arithmetic::Lt),
-        38 => Operation::OnConstant(Arithmetic::Le),
-        39 => Operation::OnConstant(Arithmetic::Eq),
-        _ => Operation::Unknown,
+impl From<u8> for Operation {
+    ghost from_gives = { λ code o. o ≡ operation_of code };
+
+    fn from(code: u8) -> Operation {
+        match code {
+            1 => Operation::Copy,
+            2 => Operation::Sink,
+            3 => Operation::Out,
+            4 => Operation::Const,
+            5 => Operation::Switch,
+            6 => Operation::Gate,
+            7 => Operation::Next,
+            8 => Operation::Enter,
+            9 => Operation::Leave,
+            10 => Operation::Fetch,
+            11 => Operation::Store,
+            16 => Operation::OnTwo(Arithmetic::Add),
+            17 => Operation::OnTwo(Arithmetic::Sub),
+            18 => Operation::OnTwo(Arithmetic::Mul),
+            19 => Operation::OnTwo(Arithmetic::Div),
+            20 => Operation::OnTwo(Arithmetic::Rem),
+            21 => Operation::OnTwo(Arithmetic::Lt),
+            22 => Operation::OnTwo(Arithmetic::Le),
+            23 => Operation::OnTwo(Arithmetic::Eq),
+            32 => Operation::OnConstant(Arithmetic::Add),
+            33 => Operation::OnConstant(Arithmetic::Sub),
+            34 => Operation::OnConstant(Arithmetic::Mul),
+            35 => Operation::OnConstant(Arithmetic::Div),
+            36 => Operation::OnConstant(Arithmetic::Rem),
+            37 => Operation::OnConstant(Arithmetic::Lt),
+            38 => Operation::OnConstant(Arithmetic::Le),
+            39 => Operation::OnConstant(Arithmetic::Eq),
+            _ => Operation::Unknown,
+        }
     }
 }
 

@@ -1,6 +1,6 @@
 -- `record::term::decode_term` meets its contract. Assumes nothing.
 use Rattle.record.specs.ExpressionRecords.{decode_term}
-use Rattle.record.proofs.term.decode.Goals as goal
+use Rattle.record.proofs.term.TermDecode.decode.Goals as goal
 
 pub returns : goal.returns
 unfolding decode_term

@@ -1,35 +1,7 @@
 -- `record::cell::encode_cell` meets its contract. Assumes nothing.
 use Rattle.std.proofs.Common.{sym, ap, ◌∙◌, to_z-of_z, w32, SFits, rules}
 use Rattle.record.specs.Cells.{encode_cell}
-use Rattle.record.proofs.cell.encode.Goals as goal
-
-pub enum_told-1 : goal.enum_told-1
-unfolding encode_cell
-enum_told-1 c = search rules
-
-pub bytes_of-requires : goal.bytes_of-requires
-unfolding encode_cell
-bytes_of-requires c = search rules
-
-pub enum_told-in-Waiting : goal.enum_told-in-Waiting
-unfolding encode_cell
-enum_told-in-Waiting c = search rules
-
-pub bytes_of-requires-in-Waiting : goal.bytes_of-requires-in-Waiting
-unfolding encode_cell
-bytes_of-requires-in-Waiting c = search rules
-
-pub enum_known-cell : goal.enum_known-cell
-unfolding encode_cell
-enum_known-cell c = search rules
-
-pub bits-requires : goal.bits-requires
-unfolding encode_cell
-bits-requires c = search rules
-
-pub bytes_of-requires-in-Present : goal.bytes_of-requires-in-Present
-unfolding encode_cell
-bytes_of-requires-in-Present c = search rules
+use Rattle.record.proofs.cell.CellEncodeWIDTH.encode.Goals as goal
 
 pub returns-in-Absent : goal.returns-in-Absent
 unfolding encode_cell

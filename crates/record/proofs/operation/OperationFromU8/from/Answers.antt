@@ -1,8 +1,8 @@
--- `record::operation::decode` meets its contract: an arm's code computes to its row, and the last arm's is in no row. Assumes nothing.
+-- `Operation::from` meets its contract: an arm's code computes to its row, and the last arm's is in no row. Assumes nothing.
 use Rattle.std.proofs.Common.{ap}
 use Rattle.record.specs.GraphRecords.{Row, table, no_row, row_of}
 use Rattle.record.proofs.LastArm.{last_arm}
-use Rattle.record.proofs.operation.decode.Goals as goal
+use Rattle.record.proofs.operation.OperationFromU8.from.Goals as goal
 
 pub returns-in-1 : goal.returns-in-1
 unfolding row_of
