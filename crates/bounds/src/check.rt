@@ -7,6 +7,7 @@ ghost use Rattle.rules.specs.Needs.{loop_free, check_needs};
 use checks::graph;
 use checks::lent::Lent;
 use checks::stores::Stores;
+use record::codec::Decode;
 use record::instruction;
 use record::instruction::Instruction;
 use rules::answer::{Fault, Refusal};
@@ -22,7 +23,7 @@ fn loop_free(graph: &[u8]) -> Result<(), Fault>
     ensures { result ≡ in_turn (λ i r. demand (loop_free r) Refusal.NotLoopFree i) 0 (graph_of graph.now) }
 {
     for i in 0..graph.len() / instruction::WIDTH {
-        let r = instruction::instruction_at(graph, i);
+        let r = Instruction::read(graph, i);
         if !is_loop_free(r) {
             return Err(Refusal::NotLoopFree.at(i));
         }

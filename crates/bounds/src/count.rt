@@ -5,6 +5,7 @@ ghost use Rattle.record.specs.Widths.{graph_width};
 ghost use Rattle.rules.specs.Needs.{firings_needed, outputs_needed};
 ghost use Rattle.bounds.specs.Reach.{sum_over};
 
+use record::codec::Decode;
 use record::instruction;
 use record::instruction::Instruction;
 
@@ -45,7 +46,7 @@ pub fn total(graph: &[u8], reached: &[bool; 256]) -> Totals
     let mut outputs = 0;
     for i in 0..graph.len() / instruction::WIDTH {
         if reached[i] {
-            let r = instruction::instruction_at(graph, i);
+            let r = Instruction::read(graph, i);
             firings += firings_of(r);
             outputs += outputs_of(r);
         }

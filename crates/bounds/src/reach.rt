@@ -10,7 +10,9 @@ ghost use Rattle.rules.specs.Needs.{all_below, inputs_of};
 ghost use Rattle.rules.specs.Needs as Needs;
 ghost use Rattle.bounds.specs.Reach.{OnPort, GoodToken, port_entry, Ports, marked, sent_by_inputs, flag, ReachedSoFar, Round};
 
+use record::codec::Decode;
 use record::instruction::{Destination, Instruction};
+use record::token::Token;
 use record::{instruction, operation, token};
 
 fn entry(d: Destination) -> usize
@@ -27,7 +29,7 @@ pub fn given(inputs: &[u8]) -> [bool; 512]
 {
     let mut sent = [false; 512];
     for i in 0..inputs.len() / token::WIDTH {
-        let t = token::token_at(inputs, i);
+        let t = Token::read(inputs, i);
         let tag = t.tag;
         let at = entry(Destination {
             instruction: tag.instruction,
@@ -92,7 +94,7 @@ impl SoFar {
             return false;
         }
         self.reached[i] = true;
-        send(&mut self.sent, instruction::instruction_at(graph, i));
+        send(&mut self.sent, Instruction::read(graph, i));
         true
     }
 

@@ -4,6 +4,7 @@
 ghost use Rattle.std.specs.Prelude.{◌/◌, ◌≤◌, ◌<◌, length};
 ghost use Rattle.record.specs.Widths.{graph_width, token_width};
 
+use record::codec::Encode;
 use record::instruction::{Destination, Instruction};
 use record::tag::Tag;
 use record::token::{Content, Token};
@@ -67,7 +68,7 @@ fn put(graph: &mut [u8], i: usize, operation: Operation, first: u16, second: u16
         constant: 0,
         zeros: 0,
     };
-    instruction::put_instruction(graph, i, r);
+    r.write(graph, i);
 }
 
 fn put_input(inputs: &mut [u8], i: usize, instruction: u16, port: u8, value: i32)
@@ -79,7 +80,7 @@ fn put_input(inputs: &mut [u8], i: usize, instruction: u16, port: u8, value: i32
         port,
         content: Content::Live(value),
     };
-    token::put_token(inputs, i, t);
+    t.write(inputs, i);
 }
 
 // ADD to OUT.

@@ -6,7 +6,6 @@ ghost use Rattle.rules.specs.Check.{fan_out_allowed, is_zero, unused_are_zero};
 
 use crate::constant;
 use record::instruction::{Destination, Instruction};
-use record::operation;
 use record::operation::Operation;
 
 // A `match` here gives what an operation has, as a row of 01's table does, and chooses no step.
@@ -36,7 +35,7 @@ fn most(operation: Operation) -> u8
 fn allowed(r: Instruction) -> bool
     ensures { result ≡ fan_out_allowed r }
 {
-    let operation = operation::decode(r.code);
+    let operation = Operation::from(r.code);
     least(operation) <= r.fanout && r.fanout <= most(operation)
 }
 
@@ -65,7 +64,7 @@ fn used_or_zero(used: bool, d: Destination) -> bool
 fn constant_used_or_zero(code: u8, value: i32) -> bool
     ensures { result ≡ uses_constant code || eq_z value (pos 0) }
 {
-    uses_constant(operation::decode(code)) || constant::is_zero(value)
+    uses_constant(Operation::from(code)) || constant::is_zero(value)
 }
 
 fn unused_are_zero(r: Instruction) -> bool

@@ -6,7 +6,6 @@ ghost use Rattle.check_fields.specs.Sites.{small_of, is_other, Sites, at_site};
 
 use crate::constant;
 use record::instruction::{Destination, Instruction};
-use record::operation;
 use record::operation::Operation;
 use std::marker::Model;
 
@@ -14,7 +13,7 @@ use std::marker::Model;
 pub fn site_of(r: Instruction) -> Option<u8>
     ensures { SomeIff result ((r.code ≡ 8) × (small_of r.constant < 256)) (small_of r.constant) }
 {
-    match operation::decode(r.code) {
+    match Operation::from(r.code) {
         Operation::Enter => constant::small(r.constant),
         _ => None,
     }
@@ -73,7 +72,7 @@ impl Entered {
     pub fn good(&self, r: Instruction) -> bool
         ensures { (earlier : List Instruction) → Sites earlier self.now → result ≡ good_site earlier r }
     {
-        match operation::decode(r.code) {
+        match Operation::from(r.code) {
             Operation::Enter => self.good_enter(r.constant, r.second),
             Operation::Leave => constant::small(r.constant).is_some(),
             _ => true,

@@ -9,10 +9,11 @@ ghost use Rattle.rules.specs.Check.{any, good_input, second_input, check_inputs}
 ghost use Rattle.check_inputs.specs.Inputs.{input_tokens, check_fields, check_second, entry_of};
 
 use check_fields::arc;
+use record::codec::Decode;
 use record::operation::OperandCounts;
 use record::tag::Tag;
+use record::token;
 use record::token::Token;
-use record::{tag, token};
 use rules::answer::{Fault, Refusal};
 
 // Of the record that s starts with: root path and iteration, state 0, zeros.
@@ -20,7 +21,7 @@ fn is_input(s: &[u8]) -> bool
     requires { token_width ≤ length s.now }
     ensures { result ≡ is_input s.now }
 {
-    let tag = tag::decode(s);
+    let tag = Tag::decode(s);
     let path = tag.path;
     path.is_root() && (tag.iteration == 0 && number::u32_at(s, token::STATE) == 0)
 }
@@ -53,7 +54,7 @@ fn taken(inputs: &[u8], n: usize, tag: Tag, port: u8) -> bool
     ensures { result ≡ any (stands_at tag port) (take n (input_tokens inputs.now)) }
 {
     for j in 0..n {
-        if token::stands_at(token::token_at(inputs, j), tag, port) {
+        if token::stands_at(Token::read(inputs, j), tag, port) {
             return true;
         }
     }
@@ -84,7 +85,7 @@ fn second(inputs: &[u8]) -> Result<(), Fault>
 {
     let mut seen = [false; 512];
     for i in 0..inputs.len() / token::WIDTH {
-        let t = token::token_at(inputs, i);
+        let t = Token::read(inputs, i);
         let at = entry(t);
         if is_second(inputs, i, t, seen[at]) {
             return Err(Refusal::SecondToken.at(i));

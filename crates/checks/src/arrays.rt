@@ -8,8 +8,10 @@ ghost use Rattle.rules.specs.Check.{demand, all, in_turn, inside_store, names_go
 
 use check_fields::constant;
 use record::array::NamedArray;
+use record::codec::Decode;
 use record::instruction::Instruction;
-use record::{array, instruction, operation};
+use record::operation::Operation;
+use record::{array, instruction};
 use rules::answer::{Fault, Refusal};
 
 // Whether an array from a first cell on, of this length, ends in the store.
@@ -31,7 +33,7 @@ fn all_inside(arrays: &[u8], cells: usize) -> bool
     ensures { result ≡ all (inside_store cells) (arrays_of arrays.now) }
 {
     for i in 0..arrays.len() / array::WIDTH {
-        if !inside(array::array_at(arrays, i), cells) {
+        if !inside(NamedArray::read(arrays, i), cells) {
             return false;
         }
     }
@@ -50,7 +52,7 @@ fn names_good(n: usize, r: Instruction) -> bool
     requires { n < 256 }
     ensures { result ≡ names_good n r }
 {
-    if !constant::names_array(operation::decode(r.code)) {
+    if !constant::names_array(Operation::from(r.code)) {
         return true;
     }
     match constant::small(r.constant) {
@@ -65,7 +67,7 @@ fn names(graph: &[u8], n: usize) -> Result<(), Fault>
     ensures { result ≡ in_turn (λ i r. demand (names_good n r) Refusal.BadArray i) 0 (graph_of graph.now) }
 {
     for i in 0..graph.len() / instruction::WIDTH {
-        if !names_good(n, instruction::instruction_at(graph, i)) {
+        if !names_good(n, Instruction::read(graph, i)) {
             return Err(Refusal::BadArray.at(i));
         }
     }

@@ -6,6 +6,7 @@ ghost use Rattle.check_fields.specs.Sites.{Sites};
 
 use check_fields::site::Entered;
 use check_fields::{arc, fan_out};
+use record::codec::Decode;
 use record::instruction;
 use record::instruction::Instruction;
 use record::operation::OperandCounts;
@@ -55,7 +56,7 @@ fn records(graph: &[u8]) -> Result<(), Fault>
     let counts = OperandCounts::new();
     let mut sites = Entered::none();
     for i in 0..graph.len() / instruction::WIDTH {
-        let r = instruction::instruction_at(graph, i);
+        let r = Instruction::read(graph, i);
         record(&counts, graph, &sites, i, r)?;
         sites.note(r);
     }

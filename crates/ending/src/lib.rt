@@ -8,6 +8,7 @@ ghost use Rattle.store_flags.specs.Flags.{places};
 ghost use Rattle.store_enabled.specs.Enabled.{enabled_places};
 ghost use Rattle.ending.specs.Endings.{proper_by, state_spent, four_spent, EndsWith, RestsAs};
 
+use record::codec::Decode;
 use record::token;
 use record::token::{Content, Token};
 use rules::answer::Outcome;
@@ -40,7 +41,7 @@ pub fn proper_at(tables: &Tables, ledger: &[u8], i: usize) -> bool
     requires { i < length ledger.now / token_width }
     ensures { result ≡ proper_by tables.now (token_at ledger.now i) }
 {
-    spent_at(ledger, i) || proper(tables, token::token_at(ledger, i))
+    spent_at(ledger, i) || proper(tables, Token::read(ledger, i))
 }
 
 // Whether there are four records before record i of a ledger, and they are spent.

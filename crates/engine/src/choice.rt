@@ -11,8 +11,10 @@ ghost use Rattle.store_flags.specs.Flags.{places, minus, Under};
 ghost use Rattle.engine.specs.Turns.{ByPicks, Plain, ByBound, Flagged, HeldBeside, ChosenAs};
 ghost use Rattle.engine.specs.declared.choice.Order.TheVariants.{Oldest, Picks, Log, Free};
 
+use record::codec::Decode;
 use record::tag::Tag;
-use record::{log, pick, token};
+use record::token::Token;
+use record::{log, pick};
 use rules::answer::{Outcome, Refusal};
 use store_chains::Links;
 use store_enabled::Tables;
@@ -93,7 +95,7 @@ fn place_named(
 {
     if !flags.is_empty() {
         let first = store::enabled_at(flags, 0);
-        let t = token::token_at(ledger, first);
+        let t = Token::read(ledger, first);
         if t.tag == tag {
             return Some(first);
         }

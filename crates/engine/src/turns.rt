@@ -14,7 +14,9 @@ ghost use Rattle.start.specs.Begun.{Accepted};
 use crate::choice;
 use crate::choice::Order;
 use fire::Operate;
-use record::{log, token};
+use record::codec::Decode;
+use record::log;
+use record::token::Token;
 use rules::answer;
 use rules::answer::{Answer, Outcome};
 use store_chains::Links;
@@ -90,7 +92,7 @@ fn note(log: &mut [u8], i: usize, ledger: &[u8], place: usize)
     ensures { log.new ≡ log_noted log.old i (token_at ledger.now place).tag }
 {
     if i < log.len() / log::WIDTH {
-        let t = token::token_at(ledger, place);
+        let t = Token::read(ledger, place);
         log::put_tag(log, i, t.tag);
     }
 }

@@ -5,6 +5,7 @@ ghost use Rattle.rules.specs.Expression.{most_terms, is_expression_length, good_
 ghost use Rattle.expression.specs.Tables.{MarkedNamed, NamesInside};
 
 use crate::{kind, numbers};
+use record::codec::Decode;
 use record::term::Term;
 use record::{instruction, term};
 use rules::answer::{Fault, Refusal};
@@ -57,7 +58,7 @@ fn terms(expression: &[u8], named: &mut [bool; MOST]) -> Result<(), Fault>
     ensures marked_named { result ≡ Ok tt → MarkedNamed (expression_of expression.now) named.new }
 {
     for i in 0..expression.len() / term::WIDTH {
-        let t = term::term_at(expression, i);
+        let t = Term::read(expression, i);
         if !good_term(named, i, t) {
             return Err(Refusal::BadExpression.at(i));
         }

@@ -7,8 +7,10 @@ ghost use Rattle.expression.specs.Tables.{NumberedRecords};
 
 use crate::check::MOST;
 use crate::{kind, numbers};
+use record::codec::Decode;
 use record::operation::Arithmetic;
 use record::term;
+use record::term::Term;
 
 // What is out of range stays so.
 fn combine(op: Arithmetic, left: Option<i32>, right: Option<i32>) -> Option<i32>
@@ -31,7 +33,7 @@ fn value_at(expression: &[u8], numbers: &[u16; MOST], values: &[u8], i: usize) -
         × (length values.now / value_width ≡ count is_variable (expression_of expression.now)) }
     ensures { result ≡ value_at (expression_of expression.now) (variables_of values.now) i }
 {
-    let t = term::term_at(expression, i);
+    let t = Term::read(expression, i);
     if kind::is_variable(t) {
         return Some(variable(values, numbers[i] as usize));
     }

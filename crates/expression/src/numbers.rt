@@ -7,6 +7,7 @@ ghost use Rattle.expression.specs.Tables.{NumberedRecords};
 
 use crate::check::MOST;
 use crate::kind;
+use record::codec::Decode;
 use record::term;
 use record::term::Term;
 
@@ -23,7 +24,7 @@ pub fn variables(expression: &[u8]) -> usize
 {
     let mut n = 0;
     for i in 0..expression.len() / term::WIDTH {
-        n += variable_of(term::term_at(expression, i));
+        n += variable_of(Term::read(expression, i));
     }
     n
 }
@@ -48,7 +49,7 @@ pub fn numbers(expression: &[u8]) -> [u16; MOST]
     let mut numbers = [0u16; MOST];
     let mut before = 0;
     for i in 0..expression.len() / term::WIDTH {
-        let t = term::term_at(expression, i);
+        let t = Term::read(expression, i);
         numbers[i] = number_of(t, before, i, n) as u16;
         before += variable_of(t);
     }

@@ -10,9 +10,10 @@ ghost use Rattle.expression.specs.Tables.{NumberedRecords};
 
 use crate::check::MOST;
 use crate::{kind, numbers};
+use record::codec::{Decode, Encode};
 use record::instruction::{Destination, Instruction};
+use record::term;
 use record::term::Term;
-use record::{instruction, term};
 
 // The codes of COPY and OUT.
 const COPY: u8 = 1;
@@ -67,10 +68,10 @@ fn put(expression: &[u8], numbers: &[u16; MOST], i: usize, to: Destination, grap
         → length g ≡ suc (length (expression_of expression.now)) → graph.old ≡ joined Graph.encode_instruction g ++ rest
         → graph.new ≡ joined Graph.encode_instruction (put_at (expression_of expression.now) i to g) ++ rest }
 {
-    let t = term::term_at(expression, i);
+    let t = Term::read(expression, i);
     let number = numbers[i];
     let r = sending(code_of(t), to);
-    instruction::put_instruction(graph, number as usize, r);
+    r.write(graph, number as usize);
     if kind::is_variable(t) {
         return;
     }
@@ -93,7 +94,7 @@ pub fn write(expression: &[u8], graph: &mut [u8])
 {
     let numbers = numbers::numbers(expression);
     let n = expression.len() / term::WIDTH;
-    instruction::put_instruction(graph, n, out());
+    out().write(graph, n);
     let out = Destination {
         instruction: n as u16,
         port: 0,

@@ -28,8 +28,11 @@ ghost use Rattle.fire.specs.Plain.{plain_in_turn, plain_sound};
 use fire_effect::operate::Action;
 use fire_effect::{operate, tags};
 use fire_outputs::Places;
+use record::cell;
+use record::codec::Decode;
+use record::instruction::Instruction;
 use record::operation::Operation;
-use record::{cell, instruction, operation, token};
+use record::token::Token;
 use rules::answer::Refusal;
 use store_chains::Links;
 use store_enabled::Tables;
@@ -145,7 +148,7 @@ pub fn fire<O: Operate>(
         (token_at ledger.old place).tag }
 {
     // Matching.
-    let t = token::token_at(ledger, place);
+    let t = Token::read(ledger, place);
     let tag = t.tag;
     let arity = store_enabled::arity(tables, tag);
     let matched = fire_operands::operands_of(links, ledger, used, tag, arity, place);
@@ -156,8 +159,8 @@ pub fn fire<O: Operate>(
         other: matched.other,
     };
     // Instruction fetch.
-    let r = instruction::instruction_at(graph, tag.instruction as usize);
-    let o = operation::decode(r.code);
+    let r = Instruction::read(graph, tag.instruction as usize);
+    let o = Operation::from(r.code);
     // Operation.
     let control = by.control(right);
     let size = cells.len() / cell::WIDTH;

@@ -6,9 +6,9 @@ ghost use Rattle.record.specs.TokensAndTags.{tokens, token_at, value_in};
 ghost use Rattle.store_enabled.specs.Store.{Known};
 ghost use Rattle.fire_operands.specs.Operands.{both_at, Earliest, matched_at};
 
+use record::codec::Decode;
 use record::tag::Tag;
-use record::token;
-use record::token::Content;
+use record::token::{Content, Token};
 use store_chains::Links;
 
 // The operands of an enabled activity: one stands at its place, the other here, and the values are by ports. Where one is waited for,
@@ -44,7 +44,7 @@ pub fn operands_of(
     requires { Known links.now ledger.now used × Earliest arity (tokens used ledger.now) tag place }
     ensures { both_at (token_at ledger.now place).port place result.other result.left result.right ≡ matched_at arity (tokens used ledger.now) tag }
 {
-    let t = token::token_at(ledger, place);
+    let t = Token::read(ledger, place);
     let content = t.content;
     let own = value_in(content);
     if arity != 2 {
@@ -55,7 +55,7 @@ pub fn operands_of(
         };
     }
     let other = store::partner(links, place).unwrap_or(place);
-    let u = token::token_at(ledger, other);
+    let u = Token::read(ledger, other);
     let found = u.content;
     let value = value_in(found);
     if t.port == 0 {

@@ -13,8 +13,8 @@ ghost use Rattle.fire_outputs.specs.Outputs.{Kept, CellStore, CellsKept, spent_a
 
 use fire_effect::operate::Action;
 use fire_effect::output::{Key, Outputs};
-use record::cell;
 use record::cell::Cell;
+use record::codec::{Decode, Encode};
 use record::token::{Content, Token};
 use store_chains::{Links, Slot};
 use store_enabled::Tables;
@@ -103,9 +103,9 @@ fn fetch(cells: &mut [u8], number: u32) -> Content
     ensures cells_kept { CellsKept cells.new (cells_fetched number (cells_in cells.old)) cells.old }
 {
     let i = number as usize;
-    let found = cell::cell_at(cells, i);
+    let found = Cell::read(cells, i);
     let Cell::Present(v) = found else {
-        cell::put_cell(cells, i, Cell::Waiting);
+        Cell::Waiting.write(cells, i);
         return Content::Deferred(number);
     };
     Content::Live(v)
@@ -121,7 +121,7 @@ fn change_cells(cells: &mut [u8], action: Action) -> Content
         Action::Send(v) => Content::Live(v),
         Action::Read(number) => fetch(cells, number),
         Action::Write(number, v) => {
-            cell::put_cell(cells, number as usize, Cell::Present(v));
+            Cell::Present(v).write(cells, number as usize);
             Content::Live(0)
         }
     }
@@ -187,7 +187,7 @@ pub fn writes_again(cells: &[u8], action: Action) -> bool
     let Action::Write(number, _) = action else {
         return false;
     };
-    let found = cell::cell_at(cells, number as usize);
+    let found = Cell::read(cells, number as usize);
     if let Cell::Present(_) = found {
         true
     } else {

@@ -14,9 +14,11 @@ ghost use Rattle.rules.specs.Check.{check_graph};
 ghost use Rattle.abstraction.specs.Tables.{Arities, Returns, arrays_in, TablesOf};
 
 use check_fields::site;
+use record::array::NamedArray;
+use record::codec::Decode;
 use record::instruction::Instruction;
 use record::operation::{OperandCounts, Operation};
-use record::{array, instruction, operation};
+use record::{array, instruction};
 use store_enabled::Tables;
 
 // The entry of instruction i, which says for each of its activities how many operands that waits for.
@@ -25,7 +27,7 @@ fn entry_at(counts: &OperandCounts, graph: &[u8], i: usize) -> u16
 {
     if i < graph.len() / instruction::WIDTH {
         let code = graph[i * instruction::WIDTH];
-        match operation::decode(code) {
+        match Operation::from(code) {
             Operation::Out => 0,
             Operation::Leave => store_enabled::LEAVE_ENTRY,
             _ => counts.of(code) as u16,
@@ -62,7 +64,7 @@ fn returns(graph: &[u8], out: &mut Tables)
 {
     *out = [0u16; store_enabled::TABLES_LENGTH];
     for i in (0..graph.len() / instruction::WIDTH).rev() {
-        note(out, instruction::instruction_at(graph, i));
+        note(out, Instruction::read(graph, i));
     }
 }
 
@@ -76,7 +78,7 @@ fn name(arrays: &[u8], out: &mut Tables)
     let n = arrays.len() / array::WIDTH;
     out[256] = n as u16;
     for i in 0..n {
-        let a = array::array_at(arrays, i);
+        let a = NamedArray::read(arrays, i);
         out[i * 2 + 257] = a.first;
         out[i * 2 + 258] = a.length;
     }

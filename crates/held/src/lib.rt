@@ -17,7 +17,9 @@ ghost use Rattle.abstraction.specs.Tables.{Arities};
 ghost use Rattle.held.specs.Searching.{later_of, Skips, PendingFrom, HolderFrom, Skipped, MarkedPast};
 ghost use Rattle.held.specs.Deciding.{is_late_next, held_at, ClearFrom, Listed, NewListed, Dropped, FlagsUnspent, HeldDecided, AllStanding, LookedAt, Carried, HeldKept, NoneNew, HeldStill, AllStill};
 
+use record::codec::Decode;
 use record::tag::{Path, Tag};
+use record::token::Token;
 use record::{instruction, token};
 use store_enabled::Tables;
 use store_flags::Flags;
@@ -108,7 +110,7 @@ fn old_at(ledger: &[u8], i: usize, path: Path, bound: usize, m: usize) -> bool
     requires { (i < length ledger.now / token_width) × (bound < 65536) }
     ensures { result ≡ on_option (stands_in path (token_at ledger.now i).tag) false (λ j. leb (j + bound) m) }
 {
-    let t = token::token_at(ledger, i);
+    let t = Token::read(ledger, i);
     let tag = t.tag;
     stands_old(tag, path, bound, m)
 }
@@ -171,7 +173,7 @@ fn holds_now(
     if !flags.is_raised(i) {
         return false;
     }
-    let t = token::token_at(ledger, i);
+    let t = Token::read(ledger, i);
     let tag = t.tag;
     let path = tag.path;
     if !is_next(graph, tag.instruction) {
@@ -223,7 +225,7 @@ fn at_next(graph: &[u8], ledger: &[u8], bound: usize, i: usize) -> bool
     requires { i < length ledger.now / token_width }
     ensures { result ≡ is_late_next (graph_of graph.now) bound (token_at ledger.now i) }
 {
-    let t = token::token_at(ledger, i);
+    let t = Token::read(ledger, i);
     let tag = t.tag;
     if is_next(graph, tag.instruction) {
         bound <= tag.iteration as usize + 1

@@ -8,8 +8,10 @@ ghost use Rattle.record.specs.Widths.{token_width};
 ghost use Rattle.store.specs.Matching.{Matching};
 ghost use Rattle.load.specs.Loaded.{ProperArrival, Alone, Loaded};
 
+use record::codec::{Decode, Encode};
 use record::tag::Tag;
 use record::token;
+use record::token::Token;
 use store_chains::Links;
 use store_enabled::Tables;
 use store_flags::Flags;
@@ -39,8 +41,8 @@ pub fn inputs(
 {
     let n = inputs.len() / token::WIDTH;
     for i in 0..n {
-        let t = token::token_at(inputs, i);
-        token::put_token(ledger, i, t);
+        let t = Token::read(inputs, i);
+        t.write(ledger, i);
         // 01, "Tokens and tags": an input carries the root tag, of which no bucket has to be worked out.
         let own = t.tag;
         let tag = Tag::root(own.instruction);

@@ -21,7 +21,8 @@ ghost use Rattle.profile.specs.Steps.{OneOrTwo, PlacesIn, unspent_at, profile_fr
 use checks::lent::Lent;
 use checks::stores::Stores;
 use fire::Plain;
-use record::token;
+use record::codec::Decode;
+use record::token::Token;
 use rules::answer::{Answer, Fault, Outcome, Profiled, Refusal};
 use store_chains::Links;
 use store_enabled::Tables;
@@ -112,7 +113,7 @@ fn operands_at(tables: &Tables, ledger: &[u8], place: usize) -> usize
     requires { (place < length ledger.now / token_width) × OneOrTwo (arity_of tables.now (token_at ledger.now place).tag) }
     ensures { result ≡ arity_of tables.now (token_at ledger.now place).tag }
 {
-    let t = token::token_at(ledger, place);
+    let t = Token::read(ledger, place);
     let tag = t.tag;
     if store_enabled::arity(tables, tag) == 2 {
         2

@@ -13,8 +13,8 @@ ghost use Rattle.range_output.specs.Left.{ends_of, token_meant, cell_meant, toke
 
 use range_table::RangeTable;
 use record::cell::Cell;
+use record::codec::{Decode, Encode};
 use record::token::{Content, Token};
-use record::{cell, token};
 
 // The bytes of a token record and of a cell record of a range run.
 pub const TOKEN_WIDTH: usize = 32;
@@ -70,10 +70,11 @@ fn token_bytes(table: &RangeTable, t: Token) -> [u8; TOKEN_WIDTH]
     ensures { result ≡ encode_range (token_meant table.now t) }
 {
     let e = ends_of(table, t.content);
-    let plain = token::encode(Token {
+    let plain = Token {
         content: e.low,
         ..t
-    });
+    }
+    .encode();
     with_high(&plain, e.high)
 }
 
@@ -83,7 +84,7 @@ pub fn put_tokens(table: &RangeTable, ledger: &[u8], used: usize, out: &mut [u8]
     ensures { out.new ≡ written_over encode_range (tokens_meant table.now (tokens used ledger.now)) out.old }
 {
     for i in 0..used {
-        let row = token_bytes(table, token::token_at(ledger, i));
+        let row = token_bytes(table, Token::read(ledger, i));
         buffer::put_row(out, TOKEN_WIDTH, i, &row);
     }
 }
@@ -93,10 +94,10 @@ fn cell_bytes(table: &RangeTable, cell: Cell) -> [u8; CELL_WIDTH]
     ensures { result ≡ encode_range_cell (cell_meant table.now cell) }
 {
     match cell {
-        Cell::Absent | Cell::Waiting => with_high(&cell::encode(cell), 0),
+        Cell::Absent | Cell::Waiting => with_high(&cell.encode(), 0),
         Cell::Present(handle) => {
             let r = table.meaning(handle);
-            with_high(&cell::encode(Cell::Present(r.low)), number::bits(r.high))
+            with_high(&Cell::Present(r.low).encode(), number::bits(r.high))
         }
     }
 }
@@ -107,7 +108,7 @@ pub fn put_cells(table: &RangeTable, store: &[u8], n: usize, out: &mut [u8])
     ensures { out.new ≡ written_over encode_range_cell (cells_meant table.now (cells n store.now)) out.old }
 {
     for i in 0..n {
-        let row = cell_bytes(table, cell::cell_at(store, i));
+        let row = cell_bytes(table, Cell::read(store, i));
         buffer::put_row(out, CELL_WIDTH, i, &row);
     }
 }

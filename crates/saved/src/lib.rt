@@ -22,6 +22,8 @@ ghost use Rattle.saved.specs.Passes.{EnteredSites, content_allowed, arrives_at, 
 use check_fields::arc;
 use check_fields::site::Entered;
 use record::cell::Cell;
+use record::codec::Decode;
+use record::instruction::Instruction;
 use record::operation::OperandCounts;
 use record::tag::Tag;
 use record::token::{Content, Token};
@@ -39,7 +41,7 @@ fn find_sites(graph: &[u8]) -> Entered
 {
     let mut sites = Entered::none();
     for i in 0..graph.len() / instruction::WIDTH {
-        sites.note(instruction::instruction_at(graph, i));
+        sites.note(Instruction::read(graph, i));
     }
     sites
 }
@@ -95,7 +97,7 @@ fn token_allowed(graph: &[u8], tables: &Tables, s: &[u8]) -> bool
     ensures value { result ≡ token_allowed (graph_of graph.now) s.now }
     ensures s_value { result ≡ true → (encode_token (decode_token s.now) ≡ take token_width s.now) × TokenFits (decode_token s.now) }
 {
-    port_allowed(graph, tables, token::decode(s)) && token::state_allowed(s)
+    port_allowed(graph, tables, Token::decode(s)) && token::state_allowed(s)
 }
 
 // Whether record i can arrive in the matching store of those before it.
@@ -115,7 +117,7 @@ fn arrives(
     if !token_allowed(graph, tables, buffer::row_at(ledger, token::WIDTH, i)) {
         return false;
     }
-    let t = token::token_at(ledger, i);
+    let t = Token::read(ledger, i);
     let tag = t.tag;
     if !path_made(sites, tag) {
         return false;
@@ -137,7 +139,7 @@ fn spent_found(ledger: &[u8], used: usize, f: Option<usize>) -> bool
     ensures { result ≡ spent_found (token_at ledger.now) f }
 {
     f.is_some_and(|j| {
-        let t = token::token_at(ledger, j);
+        let t = Token::read(ledger, j);
         is_spent(t.content)
     })
 }
@@ -197,7 +199,7 @@ fn enter(
         if !arrives(graph, tables, sites, links, ledger, count, i) {
             return false;
         }
-        let t = token::token_at(ledger, i);
+        let t = Token::read(ledger, i);
         fired += usize::from(first_spent(t));
         of_two += usize::from(spent_of_two(tables, t));
         closed += usize::from(closes(tables, links, ledger, i, t));
@@ -235,7 +237,7 @@ fn cell_right(links: &Links, cells: &[u8], c: usize) -> bool
     if !cell_allowed(buffer::row_at(cells, cell::WIDTH, c)) {
         return false;
     }
-    let x = cell::cell_at(cells, c);
+    let x = Cell::read(cells, c);
     store::any_deferred(links, c) == is_waiting(x)
 }
 

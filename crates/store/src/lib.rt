@@ -16,8 +16,8 @@ ghost use Rattle.store_chains.specs.Deferred as Deferred;
 ghost use Rattle.store_enabled.specs.Store.{Known, enabled_at, StandingRecord, Spendable, states_spent, tokens_spent};
 ghost use Rattle.store.specs.Matching.{Matching};
 
+use record::codec::Decode;
 use record::tag::Tag;
-use record::token;
 use record::token::{Content, Token};
 use store_chains::{Links, Slot};
 use store_enabled::Tables;
@@ -161,7 +161,7 @@ pub fn wake(
     let head = (cell as usize) + store_chains::WAITING;
     let mut at = store_chains::place_at(links, head);
     while let Some(i) = at {
-        let t = token::token_at(ledger, i);
+        let t = Token::read(ledger, i);
         let u = woken(t, v);
         store_enabled::change(tables, links, flags, ledger, used, i, u);
         at = store_chains::place_at(links, i + store_chains::LATER);

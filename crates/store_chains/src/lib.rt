@@ -12,6 +12,7 @@ ghost use Rattle.store_chains.specs.Slots.{SoughtAt};
 ghost use Rattle.store_chains.specs.Partners.{partner_at, Partnered, paired, Beside};
 ghost use Rattle.store_chains.specs.Deferred.{LowCell, Waiting};
 
+use record::codec::Decode;
 use record::tag::Tag;
 use record::token;
 use record::token::{Content, Token};
@@ -71,7 +72,7 @@ pub fn find(links: &Links, ledger: &[u8], used: usize, tag: Tag, port: u8) -> Op
 {
     let mut at = place_at(links, bucket(tag));
     while let Some(i) = at {
-        let t = token::token_at(ledger, i);
+        let t = Token::read(ledger, i);
         if token::stands_at(t, tag, port) {
             return Some(i);
         }
@@ -90,7 +91,7 @@ pub fn seek(links: &Links, ledger: &[u8], used: usize, tag: Tag, port: u8) -> Op
     let mut at = place_at(links, b);
     let mut partner = None;
     while let Some(i) = at {
-        let t = token::token_at(ledger, i);
+        let t = Token::read(ledger, i);
         if t.tag == tag {
             if t.port == port {
                 return None;

@@ -12,6 +12,7 @@ ghost use Rattle.store_chains.specs.Deferred.{LowCell, Waiting};
 ghost use Rattle.store_enabled.specs.Enabled.{is_live_record, operands_live, waited_for, arity_of, earliest_of};
 ghost use Rattle.store_enabled.specs.Store.{Known, Stored, raised_if, live_found, enabled_at, ready_of, ready_with, Last, StandingRecord, Spendable, states_spent, tokens_spent};
 
+use record::codec::Encode;
 use record::tag::Tag;
 use record::token;
 use record::token::{Content, Token};
@@ -226,7 +227,7 @@ pub fn append(
     ensures waiting { Waiting links.old (tokens used ledger.old) → Waiting links.new (tokens (used + 1) ledger.new) }
 {
     let tag = t.tag;
-    token::put_token(ledger, used, t);
+    t.write(ledger, used);
     store_chains::enter(links, used, t, slot);
     let entry = entry_of(tables, tag.instruction);
     let other = slot.partner;
@@ -288,7 +289,7 @@ pub fn change(
     ensures stored { Stored tables.now links.now flags.new ledger.new used }
 {
     let tag = t.tag;
-    token::put_token(ledger, i, t);
+    t.write(ledger, i);
     let operands = arity(tables, tag);
     settle_changed(flags, links, ledger, used, i, tag, t.port, operands);
 }

@@ -14,7 +14,9 @@ ghost use Rattle.record.specs.Widths.{token_width, cell_width};
 
 use crate::digits::Small;
 use record::cell::Cell;
+use record::codec::Decode;
 use record::tag::Path;
+use record::token::Token;
 use record::{cell, token};
 use rules::answer::{Answer, Outcome};
 use std::error::Error;
@@ -63,10 +65,10 @@ fn put_line(
     if j == 0 {
         line::put_answer(out, at, answer)
     } else if j <= tokens {
-        line::put_token(out, at, token::token_at(listing, j - 1))
+        line::put_token(out, at, Token::read(listing, j - 1))
     } else {
         let k = j - 1 - tokens;
-        line::put_cell(out, at, k, cell::cell_at(cells, k))
+        line::put_cell(out, at, k, Cell::read(cells, k))
     }
 }
 
@@ -146,7 +148,7 @@ fn has_line(cells: &[u8], k: usize) -> bool
     requires { k < length cells.now / cell_width }
     ensures { result ≡ false → Cells.cell_of_record cells.now k ≡ Absent }
 {
-    match cell::cell_at(cells, k) {
+    match Cell::read(cells, k) {
         Cell::Absent => false,
         Cell::Waiting => true,
         Cell::Present(_) => true,
@@ -192,7 +194,7 @@ fn put_cells(out: &mut [u8], from: usize, cells: &[u8]) -> usize
     while k < n {
         let absent = passed_over(cells, k);
         if absent == 0 {
-            at = line::put_cell(out, at, k, cell::cell_at(cells, k));
+            at = line::put_cell(out, at, k, Cell::read(cells, k));
             k += 1;
         } else {
             k += absent;

@@ -19,13 +19,13 @@ loop-i-init c = (omega arith, refl, none_seen, refl)
 pub is_second-requires : goal.is_second-requires
 unfolding second_input
 is_second-requires c =
-    let t = c.token_at-t.result in
+    let t = c.read-t.result in
     (omega arith, λ z. c.loop-i.invariant.2 t.tag t.port (rw c.entry-at.ensures.0 at z))
 
 pub returns-then-is_second : goal.returns-then-is_second
 unfolding second_input
 returns-then-is_second c =
-    let at-token-at = c.token_at-t in
+    let at-token-at = c.read-t in
     let l = c.loop-i in
     let s = c.args.inputs.now in
     let x = at-token-at.result in
@@ -38,7 +38,7 @@ returns-then-is_second c =
 pub loop-i-preserved : goal.loop-i-preserved
 unfolding second_input
 loop-i-preserved c =
-    let at-token-at = c.token_at-t in
+    let at-token-at = c.read-t in
     let l = c.loop-i in
     let s = c.args.inputs.now in
     let x = at-token-at.result in

@@ -15,14 +15,14 @@ pub returns-in-Out : goal.returns-in-Out
 unfolding waited_for row_of
 returns-in-Out c =
     let a = c.args in
-    let code : get_or a.graph.now (a.i * graph_width) 0 ≡ 3 = out_code _ (sym c.decode.ensures ∙ c.in-Out.is) in
+    let code : get_or a.graph.now (a.i * graph_width) 0 ≡ 3 = out_code _ (sym c.from.ensures ∙ c.in-Out.is) in
     entry_in a.graph.now a.i 0 (omega arith) (λ τ. rw code)
 
 pub returns-in-Leave : goal.returns-in-Leave
 unfolding waited_for row_of
 returns-in-Leave c =
     let a = c.args in
-    let code : get_or a.graph.now (a.i * graph_width) 0 ≡ 9 = leave_code _ (sym c.decode.ensures ∙ c.in-Leave.is) in
+    let code : get_or a.graph.now (a.i * graph_width) 0 ≡ 9 = leave_code _ (sym c.from.ensures ∙ c.in-Leave.is) in
     entry_in a.graph.now a.i 3 (omega arith) (λ τ. rw code)
 
 pub returns-in_default : goal.returns-in_default
@@ -30,7 +30,7 @@ returns-in_default c =
     let a = c.args in
     let m = c.in_default in
     entry_in a.graph.now a.i c.of.result (omega arith)
-    (λ τ. rw c.of.ensures (count_entry _ τ (not_out _ (λ e. m.not-Out (c.decode.ensures ∙ e))) (not_leave _ (λ e. m.not-Leave (c.decode.ensures ∙ e)))))
+    (λ τ. rw c.of.ensures (count_entry _ τ (not_out _ (λ e. m.not-Out (c.from.ensures ∙ e))) (not_leave _ (λ e. m.not-Leave (c.from.ensures ∙ e)))))
 
 pub returns-else-i-graph : goal.returns-else-i-graph
 unfolding waited_for

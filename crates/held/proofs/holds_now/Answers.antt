@@ -15,7 +15,7 @@ returns-then-not-is_raised c = let a = c.args in record { value = lowered_free (
 pub returns-then-not-is_next : goal.returns-then-not-is_next
 returns-then-not-is_next c =
     let a = c.args in
-    let t = c.token_at-t in record { value = other_free_at (graph_of a.graph.now) a.tables.now a.ledger.now a.bound a.used a.flags.now a.marks.now a.i t.result t.ensures (sym c.is_next.ensures ∙ c.if-not-is_next.true); marked_past = c.requires.6; looked_at = looked_none _ _ _ _ _ _ }
+    let t = c.read-t in record { value = other_free_at (graph_of a.graph.now) a.tables.now a.ledger.now a.bound a.used a.flags.now a.marks.now a.i t.result t.ensures (sym c.is_next.ensures ∙ c.if-not-is_next.true); marked_past = c.requires.6; looked_at = looked_none _ _ _ _ _ _ }
 
 pub first_holder-holder-requires : goal.first_holder-holder-requires
 first_holder-holder-requires c =
@@ -34,5 +34,5 @@ returns c =
     let at-if2 = c.if-not-is_next in
     let a = c.args in
     let h = c.first_holder-holder in
-    let t = c.token_at-t in
+    let t = c.read-t in
     let here = holder_here (graph_of a.graph.now) a.tables.now a.ledger.now a.bound a.used a.flags.now a.marks.now a.i c.requires.6 c.requires.3 c.requires.1 t.result t.ensures _ _ h.result refl refl h.ensures.holder_from in record { value = held_now (graph_of a.graph.now) a.tables.now a.ledger.now a.bound a.used a.flags.now a.marks.now a.i c.requires.6 c.requires.3 c.requires.1 c.requires.0 c.requires.4 (sym c.is_raised.ensures.value ∙ c.if-not-is_raised.false) t.result t.ensures (sym at-is-next.ensures ∙ at-if2.false) h.result here; marked_past = marked_on a.tables.now a.ledger.now a.bound a.used a.marks.now _ c.requires.6 c.requires.3 h.ensures.skipped a.i c.requires.1 h.result here _ c.mark.ensures; looked_at = looked_on (graph_of a.graph.now) a.ledger.now a.bound a.used a.i a.tables.now a.marks.now _ c.requires.6.size c.requires.3 h.ensures.skipped c.requires.1 t.result t.ensures (sym at-is-next.ensures ∙ at-if2.false) h.result here _ c.mark.ensures }

@@ -11,4 +11,4 @@ use Rattle.held.proofs.old_at.Goals as goal
 pub returns : goal.returns
 returns c =
     let a = c.args in
-    c.stands_old.ensures ∙ ap (λ (t : Token). on_option (stands_in a.path t.tag) false (λ j. leb (j + a.bound) a.m)) c.token_at-t.ensures
+    c.stands_old.ensures ∙ ap (λ (t : Token). on_option (stands_in a.path t.tag) false (λ j. leb (j + a.bound) a.m)) c.read-t.ensures

@@ -23,7 +23,7 @@ returns-then-not-path_made c =
       value = rw (
         allowed,
         c.if-not-token_allowed.false,
-        ← c.token_at-t.ensures,
+        ← c.read-t.ensures,
         ← c.path_made.ensures (graph_of c.args.graph.now) c.requires.2,
         c.if-not-path_made.true,
       );
@@ -37,7 +37,7 @@ returns-then-not-content_allowed c =
       value = rw (
         allowed,
         c.if-not-token_allowed.false,
-        ← c.token_at-t.ensures,
+        ← c.read-t.ensures,
         ← c.path_made.ensures (graph_of c.args.graph.now) c.requires.2,
         c.if-not-path_made.false,
         ← c.content_allowed.ensures,
@@ -55,7 +55,7 @@ returns c =
       value = rw (
         allowed,
         yes,
-        ← c.token_at-t.ensures,
+        ← c.read-t.ensures,
         ← c.path_made.ensures (graph_of c.args.graph.now) c.requires.2,
         c.if-not-path_made.false,
         ← c.content_allowed.ensures,

@@ -25,4 +25,4 @@ unfolding cell_right
 returns-clause-by_index c tables flags ledger used m =
     let a = c.args in
     let allowed : cell_allowed (drop (a.c * cell_width) a.cells.now) ≡ c.cell_allowed.result = ap cell_allowed (sym c.row_at.ensures) ∙ sym c.cell_allowed.ensures.value in
-    rw (allowed, c.if-not-cell_allowed.false, ← c.cell_at-x.ensures, ← c.is_waiting.ensures, ← c.any_deferred.ensures tables flags ledger used m) (waits c.any_deferred.result c.is_waiting.result)
+    rw (allowed, c.if-not-cell_allowed.false, ← c.read-x.ensures, ← c.is_waiting.ensures, ← c.any_deferred.ensures tables flags ledger used m) (waits c.any_deferred.result c.is_waiting.result)

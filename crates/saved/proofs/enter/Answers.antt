@@ -49,17 +49,17 @@ returns-then-not-arrives c =
 
 pub closes-requires : goal.closes-requires
 unfolding enters_all
-closes-requires c = (c.token_at-t.ensures, (stands (graph_of c.args.graph.now) c.args.tables.now c.args.ledger.now c.args.count c.loop-i.i c.token_at-t.result c.requires.3 c.requires.5 (sym c.arrives.ensures.value ∙ c.if-not-arrives.false) (c.arrives.ensures.i_value c.if-not-arrives.false) c.token_at-t.ensures).low, matching_known c.loop-i.invariant.1)
+closes-requires c = (c.read-t.ensures, (stands (graph_of c.args.graph.now) c.args.tables.now c.args.ledger.now c.args.count c.loop-i.i c.read-t.result c.requires.3 c.requires.5 (sym c.arrives.ensures.value ∙ c.if-not-arrives.false) (c.arrives.ensures.i_value c.if-not-arrives.false) c.read-t.ensures).low, matching_known c.loop-i.invariant.1)
 
 pub seek-requires : goal.seek-requires
 unfolding enters_all
-seek-requires c = (matching_known c.loop-i.invariant.1, (stands (graph_of c.args.graph.now) c.args.tables.now c.args.ledger.now c.args.count c.loop-i.i c.token_at-t.result c.requires.3 c.requires.5 (sym c.arrives.ensures.value ∙ c.if-not-arrives.false) (c.arrives.ensures.i_value c.if-not-arrives.false) c.token_at-t.ensures).low)
+seek-requires c = (matching_known c.loop-i.invariant.1, (stands (graph_of c.args.graph.now) c.args.tables.now c.args.ledger.now c.args.count c.loop-i.i c.read-t.result c.requires.3 c.requires.5 (sym c.arrives.ensures.value ∙ c.if-not-arrives.false) (c.arrives.ensures.i_value c.if-not-arrives.false) c.read-t.ensures).low)
 
 pub returns-in_default : goal.returns-in_default
 unfolding enters_all
 returns-in_default c =
     let p = arrives_parts (graph_of c.args.graph.now) c.args.tables.now c.args.ledger.now c.args.count c.loop-i.i c.requires.3 (sym c.arrives.ensures.value ∙ c.if-not-arrives.false) in
-    let taken = rw (c.in_default.is, c.token_at-t.ensures) at c.seek.ensures in
+    let taken = rw (c.in_default.is, c.read-t.ensures) at c.seek.ensures in
     absurd (false_true (sym (ap is_some p.2) ∙ taken))
 
 pub enter-requires : goal.enter-requires
@@ -69,7 +69,7 @@ enter-requires c =
     let a = c.args in
     let h = c.loop-i-test.true in
     let p = arrives_parts (graph_of a.graph.now) a.tables.now a.ledger.now a.count l.i c.requires.3 (sym c.arrives.ensures.value ∙ c.if-not-arrives.false) in
-    (l.invariant.1, omega (arith, h, c.requires.1), omega (arith, h, c.requires.1, c.requires.2), (stands (graph_of c.args.graph.now) c.args.tables.now c.args.ledger.now c.args.count c.loop-i.i c.token_at-t.result c.requires.3 c.requires.5 (sym c.arrives.ensures.value ∙ c.if-not-arrives.false) (c.arrives.ensures.i_value c.if-not-arrives.false) c.token_at-t.ensures), rw c.token_at-t.ensures p.1, rw c.in-Some.is at c.seek.ensures)
+    (l.invariant.1, omega (arith, h, c.requires.1), omega (arith, h, c.requires.1, c.requires.2), (stands (graph_of c.args.graph.now) c.args.tables.now c.args.ledger.now c.args.count c.loop-i.i c.read-t.result c.requires.3 c.requires.5 (sym c.arrives.ensures.value ∙ c.if-not-arrives.false) (c.arrives.ensures.i_value c.if-not-arrives.false) c.read-t.ensures), rw c.read-t.ensures p.1, rw c.in-Some.is at c.seek.ensures)
 
 pub loop-i-preserved : goal.loop-i-preserved
 unfolding enters_all
@@ -77,7 +77,7 @@ loop-i-preserved c =
     let l = c.loop-i in
     let a = c.args in
     let m = a.ledger.now in
-    let e = c.token_at-t.ensures in (
+    let e = c.read-t.ensures in (
       omega (arith, c.loop-i-test.true),
       c.enter.ensures,
       all_more (arrives_at (graph_of a.graph.now) a.tables.now m a.count) l.i (sym c.arrives.ensures.value ∙ c.if-not-arrives.false) l.invariant.2,

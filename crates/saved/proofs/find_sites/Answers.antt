@@ -19,9 +19,9 @@ pub loop-i-preserved : goal.loop-i-preserved
 loop-i-preserved c =
     let l = c.loop-i in
     let g = c.args.graph.now in
-    let r = c.instruction_at.result in
+    let r = c.read.result in
     let h : l.i < length g / graph_width = omega (arith, c.loop-i-test.true) in
-    let e = in_graph g l.i h r ∙ sym c.instruction_at.ensures in (
+    let e = in_graph g l.i h r ∙ sym c.read.ensures in (
       omega arith,
       rw c.note.ensures (length_at_site l.sites r _ ∙ l.invariant.1),
       rw (take_next (graph_of g) l.i r (omega (arith, length_graph g)) e, c.note.ensures) (one_site (take l.i (graph_of g)) l.sites r _ (omega (arith, l.invariant.1)) l.invariant.2),

@@ -42,8 +42,8 @@ loop-at-init c =
     let a = c.args in
     waking_start a.cell (to_z w32 (of_z w32 a.v)) a.tables.now a.links.now a.flags.now a.ledger.now a.used c.requires.0 c.requires.1 _ c.place_at-at.ensures
 
-pub token_at-t-requires : goal.token_at-t-requires
-token_at-t-requires c =
+pub read-t-requires : goal.read-t-requires
+read-t-requires c =
     let a = c.args in
     let l = c.loop-at in
     omega (arith, waking_low a.cell (to_z w32 (of_z w32 a.v)) a.tables.now a.links.now a.flags.now a.ledger.now a.used c.requires.0 c.requires.1 l.flags l.ledger c.in-Some.i (rw c.in-Some.is at l.invariant), l.invariant.store.known.room)
@@ -53,7 +53,7 @@ change-requires c =
     let a = c.args in
     let l = c.loop-at in
     let e = c.woken-u.ensures in
-    let t = c.token_at-t.ensures in
+    let t = c.read-t.ensures in
     let low = waking_low a.cell (to_z w32 (of_z w32 a.v)) a.tables.now a.links.now a.flags.now a.ledger.now a.used c.requires.0 c.requires.1 l.flags l.ledger c.in-Some.i (rw c.in-Some.is at l.invariant) in
     (l.invariant.store, low, rw (e, t), rw (e, t), rw e (λ h. refl))
 
@@ -62,7 +62,7 @@ loop-at-smaller c =
     let a = c.args in
     let l = c.loop-at in
     let p = c.change in
-    let step = stepped a.cell (to_z w32 (of_z w32 a.v)) a.tables.now a.links.now a.flags.now a.ledger.now a.used c.requires.0 c.requires.1 l.flags l.ledger c.in-Some.i (rw c.in-Some.is at l.invariant) c.token_at-t.result c.token_at-t.ensures c.woken-u.result c.woken-u.ensures
+    let step = stepped a.cell (to_z w32 (of_z w32 a.v)) a.tables.now a.links.now a.flags.now a.ledger.now a.used c.requires.0 c.requires.1 l.flags l.ledger c.in-Some.i (rw c.in-Some.is at l.invariant) c.read-t.result c.read-t.ensures c.woken-u.result c.woken-u.ensures
     p.new.flags p.new.ledger (omega (arith, p.auto.ledger)) p.ensures.ledger_after p.ensures.ledger_after_2 p.ensures.stored _ c.place_at-at-in-Some.ensures in
     rw c.in-Some.is step.0
 
@@ -71,7 +71,7 @@ loop-at-preserved c =
     let a = c.args in
     let l = c.loop-at in
     let p = c.change in
-    let step = stepped a.cell (to_z w32 (of_z w32 a.v)) a.tables.now a.links.now a.flags.now a.ledger.now a.used c.requires.0 c.requires.1 l.flags l.ledger c.in-Some.i (rw c.in-Some.is at l.invariant) c.token_at-t.result c.token_at-t.ensures c.woken-u.result c.woken-u.ensures
+    let step = stepped a.cell (to_z w32 (of_z w32 a.v)) a.tables.now a.links.now a.flags.now a.ledger.now a.used c.requires.0 c.requires.1 l.flags l.ledger c.in-Some.i (rw c.in-Some.is at l.invariant) c.read-t.result c.read-t.ensures c.woken-u.result c.woken-u.ensures
     p.new.flags p.new.ledger (omega (arith, p.auto.ledger)) p.ensures.ledger_after p.ensures.ledger_after_2 p.ensures.stored _ c.place_at-at-in-Some.ensures in
     step.1
 

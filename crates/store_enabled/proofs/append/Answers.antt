@@ -76,27 +76,27 @@ pub settle_arrived-requires : goal.settle_arrived-requires
 settle_arrived-requires c =
     let a = c.args in
     let q = c.requires in
-    let p = c.put_token in
+    let p = c.write in
     let n = c.enter in
-    let same : length p.new.ledger ≡ length a.ledger.now = omega (arith, p.auto.ledger) in
-    let e = entered a.tables.now a.links.now a.flags.now a.ledger.now p.new.ledger n.new.links a.used a.t a.slot q.0 q.1 q.2 q.3 q.5 p.ensures.0 p.ensures.1 same n.ensures.indexed n.ensures.partnered in
-    let here = there a.tables.now a.links.now a.flags.now a.ledger.now p.new.ledger n.new.links a.used a.t a.slot q.0 q.1 q.2 q.3 q.5 p.ensures.0 p.ensures.1 same n.ensures.indexed n.ensures.partnered in
+    let same : length p.new.buf ≡ length a.ledger.now = omega (arith, p.auto.buf) in
+    let e = entered a.tables.now a.links.now a.flags.now a.ledger.now p.new.buf n.new.links a.used a.t a.slot q.0 q.1 q.2 q.3 q.5 p.ensures.0 p.ensures.1 same n.ensures.indexed n.ensures.partnered in
+    let here = there a.tables.now a.links.now a.flags.now a.ledger.now p.new.buf n.new.links a.used a.t a.slot q.0 q.1 q.2 q.3 q.5 p.ensures.0 p.ensures.1 same n.ensures.indexed n.ensures.partnered in
     let live = ap (λ (x : Token). is_live_record x.content) here ∙ ap is_live_record c.in-Live.is in
-    (last a.tables.now a.links.now a.flags.now a.ledger.now p.new.ledger n.new.links a.used a.t a.slot q.0 q.1 q.2 q.3 q.5 p.ensures.0 p.ensures.1 same n.ensures.indexed n.ensures.partnered, live, λ h. rw e.more (flag_before a.tables.now a.ledger.now a.used a.t a.flags.now q.0.right q.5.free q.3 (rw c.entry_of-entry.ensures at h)))
+    (last a.tables.now a.links.now a.flags.now a.ledger.now p.new.buf n.new.links a.used a.t a.slot q.0 q.1 q.2 q.3 q.5 p.ensures.0 p.ensures.1 same n.ensures.indexed n.ensures.partnered, live, λ h. rw e.more (flag_before a.tables.now a.ledger.now a.used a.t a.flags.now q.0.right q.5.free q.3 (rw c.entry_of-entry.ensures at h)))
 
 pub returns-in-Live : goal.returns-in-Live
 returns-in-Live c =
     let a = c.args in
     let q = c.requires in
-    let p = c.put_token in
+    let p = c.write in
     let n = c.enter in
-    let same : length p.new.ledger ≡ length a.ledger.now = omega (arith, p.auto.ledger) in
-    let e = entered a.tables.now a.links.now a.flags.now a.ledger.now p.new.ledger n.new.links a.used a.t a.slot q.0 q.1 q.2 q.3 q.5 p.ensures.0 p.ensures.1 same n.ensures.indexed n.ensures.partnered in
+    let same : length p.new.buf ≡ length a.ledger.now = omega (arith, p.auto.buf) in
+    let e = entered a.tables.now a.links.now a.flags.now a.ledger.now p.new.buf n.new.links a.used a.t a.slot q.0 q.1 q.2 q.3 q.5 p.ensures.0 p.ensures.1 same n.ensures.indexed n.ensures.partnered in
     let ts = tokens a.used a.ledger.now in
     let vs = ts ++ a.t ∷ [] in
     let k = arity_of a.tables.now a.t.tag in
     let once = raised_operand (ltb a.t.port k) (is_enabled a.tables.now vs a.t.tag) a.flags.now (earliest_of vs a.t.tag)
-    (λ h. past a.tables.now a.links.now a.flags.now a.ledger.now p.new.ledger n.new.links a.used a.t a.slot q.0 q.1 q.2 q.3 q.5 p.ensures.0 p.ensures.1 same n.ensures.indexed n.ensures.partnered (ltb-false a.t.port k h)) (waits a.tables.now a.links.now a.flags.now a.ledger.now p.new.ledger n.new.links a.used a.t a.slot q.0 q.1 q.2 q.3 q.5 p.ensures.0 p.ensures.1 same n.ensures.indexed n.ensures.partnered) in
+    (λ h. past a.tables.now a.links.now a.flags.now a.ledger.now p.new.buf n.new.links a.used a.t a.slot q.0 q.1 q.2 q.3 q.5 p.ensures.0 p.ensures.1 same n.ensures.indexed n.ensures.partnered (ltb-false a.t.port k h)) (waits a.tables.now a.links.now a.flags.now a.ledger.now p.new.buf n.new.links a.used a.t a.slot q.0 q.1 q.2 q.3 q.5 p.ensures.0 p.ensures.1 same n.ensures.indexed n.ensures.partnered) in
     let flags = c.settle_arrived.ensures.flags_after ∙ rw (c.entry_of-entry.ensures, e.more) once in
     record {
       ledger_after = p.ensures.0;
@@ -109,15 +109,15 @@ pub returns-in_default : goal.returns-in_default
 returns-in_default c =
     let a = c.args in
     let q = c.requires in
-    let p = c.put_token in
+    let p = c.write in
     let n = c.enter in
-    let same : length p.new.ledger ≡ length a.ledger.now = omega (arith, p.auto.ledger) in
-    let e = entered a.tables.now a.links.now a.flags.now a.ledger.now p.new.ledger n.new.links a.used a.t a.slot q.0 q.1 q.2 q.3 q.5 p.ensures.0 p.ensures.1 same n.ensures.indexed n.ensures.partnered in
+    let same : length p.new.buf ≡ length a.ledger.now = omega (arith, p.auto.buf) in
+    let e = entered a.tables.now a.links.now a.flags.now a.ledger.now p.new.buf n.new.links a.used a.t a.slot q.0 q.1 q.2 q.3 q.5 p.ensures.0 p.ensures.1 same n.ensures.indexed n.ensures.partnered in
     let ts = tokens a.used a.ledger.now in
     let off = not_live a.t.content c.in_default.not-Live in
     record {
       ledger_after = p.ensures.0;
       ledger_after_2 = e.more;
-      stored = e.stored a.flags.now (rw e.more (idle a.tables.now a.links.now a.flags.now a.ledger.now p.new.ledger n.new.links a.used a.t a.slot q.0 q.1 q.2 q.3 q.5 p.ensures.0 p.ensures.1 same n.ensures.indexed n.ensures.partnered off));
+      stored = e.stored a.flags.now (rw e.more (idle a.tables.now a.links.now a.flags.now a.ledger.now p.new.buf n.new.links a.used a.t a.slot q.0 q.1 q.2 q.3 q.5 p.ensures.0 p.ensures.1 same n.ensures.indexed n.ensures.partnered off));
       waiting = (λ w. rw e.more (n.ensures.waiting ts (length_rows token_width decode_token a.used a.ledger.now) w));
     }

@@ -14,7 +14,7 @@ put_cell-at-requires c =
     let g = c.args.cells.now in
     let h : l.k < length g / cell_width = omega arith in
     let lt : l.k < length (lines_of_cells g) = omega (arith, count_cells g) in
-    rw (c.cell_at.ensures, ← cell_at_lem g l.k h) (line_room (lines_of_cells g) l.k lt l.invariant.1 c.requires)
+    rw (c.read.ensures, ← cell_at_lem g l.k h) (line_room (lines_of_cells g) l.k lt l.invariant.1 c.requires)
 
 pub loop-k-preserved-then-absent-eq0 : goal.loop-k-preserved-then-absent-eq0
 loop-k-preserved-then-absent-eq0 c =
@@ -22,7 +22,7 @@ loop-k-preserved-then-absent-eq0 c =
     let g = c.args.cells.now in
     let h : l.k < length g / cell_width = omega arith in
     let lt : l.k < length (lines_of_cells g) = omega (arith, count_cells g) in
-    (omega arith, line_made (lines_of_cells g) l.k lt l.invariant.1 (rw (cell_at_lem g l.k h, ← c.cell_at.ensures) c.put_cell-at.ensures))
+    (omega arith, line_made (lines_of_cells g) l.k lt l.invariant.1 (rw (cell_at_lem g l.k h, ← c.read.ensures) c.put_cell-at.ensures))
 
 pub loop-k-preserved : goal.loop-k-preserved
 loop-k-preserved c =

@@ -12,18 +12,18 @@ use Rattle.checks.proofs.arrays.names_good.Goals as goal
 
 pub returns-then-not-names_array : goal.returns-then-not-names_array
 unfolding names_good
-returns-then-not-names_array c = rw (← c.names_array.ensures _ (sym c.decode.ensures), c.if-not-names_array.true)
+returns-then-not-names_array c = rw (← c.names_array.ensures _ (sym c.from.ensures), c.if-not-names_array.true)
 
 pub returns-in-Some : goal.returns-in-Some
 unfolding names_good
 returns-in-Some c =
     let fits : SFits w32 c.args.r.constant = record { sfits = c.struct_told-1.given.1.1.1.1.0.1 } in
     let h = rw c.in-Some.is at (rw (to_z-of_z fits) at c.small.ensures) in
-    rw (← c.names_array.ensures _ (sym c.decode.ensures), c.if-not-names_array.false, within_few c.args.n c.requires c.args.r.constant, ← h.1)
+    rw (← c.names_array.ensures _ (sym c.from.ensures), c.if-not-names_array.false, within_few c.args.n c.requires c.args.r.constant, ← h.1)
 
 pub returns-in-None : goal.returns-in-None
 unfolding names_good
 returns-in-None c =
     let fits : SFits w32 c.args.r.constant = record { sfits = c.struct_told-1.given.1.1.1.1.0.1 } in
     let h = rw c.in-None.is at (rw (to_z-of_z fits) at c.small.ensures) in
-    rw (← c.names_array.ensures _ (sym c.decode.ensures), c.if-not-names_array.false, within_few c.args.n c.requires c.args.r.constant, lt-leb (small_of c.args.r.constant) c.args.n (omega (arith, h, c.requires)))
+    rw (← c.names_array.ensures _ (sym c.from.ensures), c.if-not-names_array.false, within_few c.args.n c.requires c.args.r.constant, lt-leb (small_of c.args.r.constant) c.args.n (omega (arith, h, c.requires)))

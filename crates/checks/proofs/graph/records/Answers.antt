@@ -20,7 +20,7 @@ record-requires c = c.loop-i.invariant.2
 
 pub returns-in_err-record : goal.returns-in_err-record
 returns-in_err-record c =
-    let at-instruction-at = c.instruction_at-r in
+    let at-instruction-at = c.read-r in
     let l = c.loop-i in
     let g = c.args.graph.now in
     let r = at-instruction-at.result in
@@ -31,7 +31,7 @@ returns-in_err-record c =
 
 pub loop-i-preserved : goal.loop-i-preserved
 loop-i-preserved c =
-    let at-instruction-at = c.instruction_at-r in
+    let at-instruction-at = c.read-r in
     let l = c.loop-i in
     let g = c.args.graph.now in
     let r = at-instruction-at.result in

@@ -51,14 +51,14 @@ returns-then-not-ready c = λ ts before added r.
 pub bounds-self-i-2 : goal.bounds-self-i-2
 bounds-self-i-2 c = let p = c.requires in low c.args.graph.now c.args.i p.0 p.1
 
-pub instruction_at-requires : goal.instruction_at-requires
-instruction_at-requires c = c.requires.1
+pub read-requires : goal.read-requires
+read-requires c = c.requires.1
 
 pub send-requires : goal.send-requires
 send-requires c =
     let a = c.args in
     let p = c.requires in
-    rw (c.instruction_at.ensures, ← at_graph a.graph.now a.i p.1) (destinations_inside a.graph.now p.0 a.i (within a.graph.now a.i p.0 p.1))
+    rw (c.read.ensures, ← at_graph a.graph.now a.i p.1) (destinations_inside a.graph.now p.0 a.i (within a.graph.now a.i p.0 p.1))
 
 pub returns : goal.returns
 returns c = λ ts before added r.
@@ -68,6 +68,6 @@ returns c = λ ts before added r.
     let g = graph_of s in
     let w = within s a.i p.0 p.1 in
     let l = low s a.i p.0 p.1 in
-    let own = c.instruction_at.ensures ∙ sym (at_graph s a.i p.1) in
+    let own = c.read.ensures ∙ sym (at_graph s a.i p.1) in
     let ready = sym (is_ready ts g r.kept a.i l) ∙ sym c.ready.ensures ∙ c.if-not-ready.false in
     rw (or_right added true refl, c.send.ensures, own) (take_in ts g r w l c.if-self-i.false ready (destinations_inside s p.0 a.i w))
