@@ -49,7 +49,8 @@ fn count(listing: &[u8], cells: &[u8]) -> usize
     1 + (listing.len() / token::WIDTH + cells.len() / cell::WIDTH)
 }
 
-// Puts line j into `out` from `at` on; that of an absent cell is empty.
+// Puts line j into `out` from `at` on; that of an absent cell is empty. The answer, the listing and the cells stay three:
+// in one struct no proof of `fits` closed, which needs that the items of both slices are bytes.
 fn put_line(
     out: &mut [u8],
     at: usize,

@@ -345,7 +345,8 @@ pub fn path_of(s: &[u8]) -> Path
     }
 }
 
-// Puts the line of a token.
+// Puts the line of a token. It shares no `put_rest` with `put_record`: called from two places, that one was no longer
+// compiled into the loop over the tokens, and printing took an eighth longer.
 #[tactic(auto, unfolding(crate::specs::Text::token_line))]
 pub fn put_token(out: &mut [u8], at: usize, t: Token) -> usize
     requires { RoomForText out.old at (token_line t) }
