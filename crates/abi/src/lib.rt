@@ -17,7 +17,7 @@ ghost use Rattle.listing.specs.Listing.{listed_out};
 ghost use Rattle.listing.specs.Listing.{list_answer as Listing·answer};
 ghost use Rattle.abi.specs.Numbers.{packed, AsNumber, made_number, value_number, refusal_of, unplaced, outcome_numbered, unpacked, tally_number, limits_in, ServesNumber, print_answer, print_after};
 
-use plot_cache::{Ended, Limits};
+use plot_cache::{Ended, Limits, Request};
 use rules::answer;
 use rules::answer::{Answer, Outcome, Refusal};
 use text::TooSmall;
@@ -308,25 +308,21 @@ pub fn ttda_serves(
         answer,
         held: kept_held as usize,
     };
-    let kept = limits_in(kept_limits);
-    let asked = limits_in(limits);
-    if plot_cache::serves(
-        kept_graph,
-        kept_arrays,
-        kept_inputs,
-        kept_picks,
-        kept,
-        end,
+    let kept = Request {
+        graph: kept_graph,
+        arrays: kept_arrays,
+        inputs: kept_inputs,
+        picks: kept_picks,
+        limits: limits_in(kept_limits),
+    };
+    let asked = Request {
         graph,
         arrays,
         inputs,
         picks,
-        asked,
-    ) {
-        1
-    } else {
-        0
-    }
+        limits: limits_in(limits),
+    };
+    u64::from(plot_cache::serves(&kept, end, &asked))
 }
 
 #[tactic(auto, unfolding(convert::specs::Convert::convert_answer))]
