@@ -69,6 +69,7 @@ fn same_order(kept_picks: &[u8], kept: Limits, picks: &[u8], asked: Limits) -> b
 }
 
 // Whether nothing is left enabled: completed, or hung with nothing held back.
+#[tactic(auto, unfolding(crate::specs::Serves::rests))]
 fn rests(outcome: Outcome, held: usize) -> bool
     ensures { result ≡ rests outcome held }
 {
@@ -81,6 +82,7 @@ fn rests(outcome: Outcome, held: usize) -> bool
 }
 
 // Whether a run that ended so ends as every order without a bound does that has this length of picks and this budget.
+#[tactic(auto, unfolding(crate::specs::Serves::any_order))]
 fn any_order(end: Ended, picks: usize, asked: Limits) -> bool
     ensures { result ≡ any_order end picks asked }
 {
@@ -92,6 +94,7 @@ fn any_order(end: Ended, picks: usize, asked: Limits) -> bool
 }
 
 // Whether what is kept of a run that ended so serves for the run that is asked for.
+#[tactic(auto, unfolding(crate::specs::Serves::serves))]
 pub fn serves(kept: &Request<'_>, end: Ended, asked: &Request<'_>) -> bool
     ensures { Decided kept.now end asked.now result }
 {

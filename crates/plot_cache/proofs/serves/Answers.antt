@@ -6,18 +6,6 @@ use Rattle.plot_cache.specs.Serves.{serves}
 use Rattle.plot_cache.proofs.Served.{decided}
 use Rattle.plot_cache.proofs.serves.Goals as goal
 
-pub same_machine-requires : goal.same_machine-requires
-unfolding serves
-same_machine-requires c = search rules
-
-pub same_order-requires : goal.same_order-requires
-unfolding serves
-same_order-requires c = search rules
-
-pub any_order-requires : goal.any_order-requires
-unfolding serves
-any_order-requires c = search rules
-
 pub returns-then-same_order : goal.returns-then-same_order
 unfolding serves
 returns-then-same_order c =
