@@ -37,6 +37,7 @@ fn put_record(layout: Layout, old: &[u8], out: &mut [u8], i: usize)
 }
 
 // Writes every record of `old` to `out`.
+#[tactic(auto, unfolding(crate::specs::Convert::converted))]
 fn put_records(layout: Layout, old: &[u8], out: &mut [u8])
     requires { length out.old ≡ length old.now / (8 + layout.rest) * (16 + layout.rest) }
     ensures { out.new ≡ converted layout.rest old.now }
@@ -48,6 +49,7 @@ fn put_records(layout: Layout, old: &[u8], out: &mut [u8])
 }
 
 // Whether an output of one length takes the old records of another.
+#[tactic(auto, unfolding(crate::specs::Convert::convert_accepted))]
 fn accepts(layout: Layout, old: usize, out: usize) -> bool
     ensures { result ≡ convert_accepted layout.rest old out }
 {
@@ -57,6 +59,7 @@ fn accepts(layout: Layout, old: usize, out: usize) -> bool
 
 // Writes the records of `old` to `out`, the new bytes zero. A bad store, with `out` untouched, unless
 // `old` is whole records, 2,048 at most, and `out` has the length of as many new ones.
+#[tactic(auto, unfolding(crate::specs::Convert::convert_result, crate::specs::Convert::converted_out, crate::specs::Convert::convert_accepted))]
 fn convert_records(layout: Layout, old: &[u8], out: &mut [u8]) -> Result<(), Refusal>
     ensures { ConvertedBy layout.rest old.now out.old out.new result }
 {

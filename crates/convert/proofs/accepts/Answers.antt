@@ -9,22 +9,6 @@ use Rattle.record.specs.TokensAndTags.{most_tokens}
 use Rattle.convert.specs.Convert.{convert_accepted}
 use Rattle.convert.proofs.accepts.Goals as goal
 
-pub overflow_add-width : goal.overflow_add-width
-unfolding convert_accepted
-overflow_add-width c = search rules
-
-pub whole-requires : goal.whole-requires
-unfolding convert_accepted
-whole-requires c = search rules
-
-pub nonzero_div-result : goal.nonzero_div-result
-unfolding convert_accepted
-nonzero_div-result c = search rules
-
-pub overflow_add-result : goal.overflow_add-result
-unfolding convert_accepted
-overflow_add-result c = search rules
-
 pub overflow_mul-result : goal.overflow_mul-result
 unfolding convert_accepted
 overflow_mul-result c =

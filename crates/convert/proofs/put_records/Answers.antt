@@ -11,14 +11,6 @@ use Rattle.convert.specs.Convert.{widened, converted}
 use Rattle.convert.proofs.Records.{together, one_more, inside_old, inside_new}
 use Rattle.convert.proofs.put_records.Goals as goal
 
-pub overflow_add-count : goal.overflow_add-count
-unfolding converted
-overflow_add-count c = search rules
-
-pub nonzero_div-count : goal.nonzero_div-count
-unfolding converted
-nonzero_div-count c = search rules
-
 pub loop-i-init : goal.loop-i-init
 unfolding converted
 loop-i-init c = (omega arith, c.requires, rw (zero-mul (16 + c.args.layout.rest)))
