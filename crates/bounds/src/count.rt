@@ -24,6 +24,7 @@ fn firings_of(r: Instruction) -> usize
 }
 
 // A SWITCH has one output, whichever side it takes.
+#[tactic(auto, unfolding(rules::specs::Needs::outputs_needed))]
 fn outputs_of(r: Instruction) -> usize
     ensures { (result ≡ outputs_needed r) × (result ≤ 2) }
 {

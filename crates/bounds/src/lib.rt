@@ -13,6 +13,7 @@ use record::token;
 use rules::answer::{Fault, Needs};
 
 // The bounds of a graph and inputs that passed.
+#[tactic(auto, unfolding(rules::specs::Needs::needs))]
 fn at_most(graph: &[u8], inputs: &[u8]) -> Needs
     requires { check_needs graph.now inputs.now ≡ Ok tt }
     ensures { Ok result ≡ needs graph.now inputs.now }

@@ -28,10 +28,6 @@ pub returns-then-r-ge2 : goal.returns-then-r-ge2
 unfolding outputs_needed
 returns-then-r-ge2 c = (rw (ne_eqb _ _ c.if-r-eq5.false) (two _ _ _ c.if-r-ge2.true), omega arith)
 
-pub overflow_cast-result : goal.overflow_cast-result
-unfolding outputs_needed
-overflow_cast-result c = search rules
-
 pub returns : goal.returns
 unfolding outputs_needed
 returns c = (rw (ne_eqb _ _ c.if-r-eq5.false) (fewer _ _ _ c.if-r-ge2.false), omega arith)
