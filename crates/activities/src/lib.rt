@@ -17,6 +17,7 @@ use checks::bound::Bounded;
 use checks::graph;
 use checks::lent::Lent;
 use checks::stores::Stores;
+use held::Holds;
 use rules::answer::{Fault, Refusal};
 use store_enabled::Tables;
 use store_flags::{Flags, Free};
@@ -47,6 +48,7 @@ fn check_lent(graph: &[u8], bound: usize, ledger: usize, cells: usize) -> Result
 }
 
 // The number of enabled activities that a bound does not hold back.
+// A ledger is lent by the caller, as bytes: `used` of its records are tokens.
 fn count_free(
     graph: &[u8],
     tables: &Tables,
@@ -60,14 +62,10 @@ fn count_free(
         (free_of (machine_of (graph_of graph.now) table capacity count) (held_in (graph_of graph.now) bound)
         (state_held (tokens used ledger.now) cs)) }
 {
-    let mut nexts = Flags::new();
-    let mut held = Flags::new();
-    let mut marks = [0u16; 4096];
+    let mut holds = Holds::new();
     // No activity fired: all records are new, and the place is none.
-    held::follow(
-        graph, tables, flags, ledger, 0, used, 0, bound, &mut nexts, &mut held, &mut marks,
-    );
-    Free::new(flags, &held).count()
+    holds.follow(graph, tables, flags, ledger, 0, used, 0, bound);
+    Free::new(flags, &holds.held).count()
 }
 
 // A state is taken and counted, or it is refused by 24.

@@ -54,6 +54,7 @@ fn four_spent(ledger: &[u8], i: usize) -> bool
             && (spent_at(ledger, i - 2) && (spent_at(ledger, i - 3) && spent_at(ledger, i - 4))))
 }
 
+// A ledger is lent by the caller, as bytes: `used` of its records are tokens.
 // 02, R-2: with nothing enabled, a run is completed only if every live token is a result and none is deferred.
 pub fn ending(tables: &Tables, ledger: &[u8], used: usize) -> Outcome
     requires { used ≤ length ledger.now / token_width }

@@ -14,6 +14,7 @@ ghost use Rattle.start.specs.Begun.{Accepted};
 use crate::choice;
 use crate::choice::Order;
 use fire::Operate;
+use held::Holds;
 use record::codec::Decode;
 use record::log;
 use record::token::Token;
@@ -107,18 +108,14 @@ pub fn follow(
     used: usize,
     n: usize,
     place: usize,
-    nexts: &mut Flags,
-    held: &mut Flags,
-    marks: &mut [u16],
+    holds: &mut Holds,
 )
-    requires { Followed (graph_of graph.now) bound tables.now flags.now ledger.now used n nexts.old held.old marks.old }
-    ensures { Holding (graph_of graph.now) bound tables.now flags.now ledger.now n nexts.new held.new marks.new }
+    requires { Followed (graph_of graph.now) bound tables.now flags.now ledger.now used n holds.old.nexts holds.old.held holds.old.marks }
+    ensures { Holding (graph_of graph.now) bound tables.now flags.now ledger.now n holds.new.nexts holds.new.held holds.new.marks }
 {
-    if !held::calm(
-        graph, tables, flags, ledger, used, n, bound, nexts, held, marks,
-    ) {
+    if !holds.calm(graph, tables, flags, ledger, used, n, bound) {
         // Parts that are the whole: the slices as they are would be stored in every turn.
-        held::follow(
+        holds.follow(
             &graph[0..],
             tables,
             flags,
@@ -127,15 +124,12 @@ pub fn follow(
             n,
             place,
             bound,
-            nexts,
-            held,
-            marks,
         );
     }
 }
 
-// A run goes on from a state, and notes each firing. Whoever chooses, and by whatever operation, this is the loop. The arrays of what is
-// held back are lent; an order that holds nothing back does not look at them.
+// A run goes on from a state, and notes each firing. Whoever chooses, and by whatever operation, this is the loop. What is held back
+// is lent; an order that holds nothing back does not look at it.
 fn turns<O: Operate>(
     graph: &[u8],
     tables: &Tables,
@@ -144,9 +138,7 @@ fn turns<O: Operate>(
     by: &mut O,
     links: &mut Links,
     flags: &mut Flags,
-    nexts: &mut Flags,
-    held: &mut Flags,
-    marks: &mut [u16],
+    holds: &mut Holds,
     ledger: &mut [u8],
     cells: &mut [u8],
     log: &mut [u8],
@@ -154,7 +146,7 @@ fn turns<O: Operate>(
 ) -> Answer
     requires { Prepared graph.now tables.now
         × Running (graph_of graph.now) tables.now links.old flags.old ledger.old cells.old going.used
-        × Bounding order (graph_of graph.now) tables.now flags.old ledger.old going.used nexts.old held.old marks.old
+        × Bounding order (graph_of graph.now) tables.now flags.old ledger.old going.used holds.old.nexts holds.old.held holds.old.marks
         × O.fits by.old going.used }
     ensures proceeded { Proceeded
         (end_keeping O.asks O.keeps order source.now (graph_of graph.now) tables.now ledger.old cells.old
@@ -167,23 +159,31 @@ fn turns<O: Operate>(
     ensures kept { by.new
         ≡ (end_keeping O.asks O.keeps order source.now (graph_of graph.now) tables.now ledger.old cells.old
         going.used going.budget by.old).kept }
-    ensures bounding { Bounding order (graph_of graph.now) tables.now flags.new ledger.new result.tokens nexts.new
-        held.new marks.new }
+    ensures bounding { Bounding order (graph_of graph.now) tables.now flags.new ledger.new result.tokens holds.new.nexts holds.new.held holds.new.marks }
 {
     let budget = going.budget;
     let mut used = going.used;
     for firings in 0..budget {
         let turned = take_turn(
-            graph, tables, order, source, firings, by, links, flags, held, ledger, cells, used,
+            graph,
+            tables,
+            order,
+            source,
+            firings,
+            by,
+            links,
+            flags,
+            &holds.held,
+            ledger,
+            cells,
+            used,
         );
         match turned {
             Ok(fired) => {
                 let place = fired.place;
                 let n = fired.used;
                 if let Order::Free(bound) = order {
-                    follow(
-                        bound, graph, tables, flags, ledger, used, n, place, nexts, held, marks,
-                    );
+                    follow(bound, graph, tables, flags, ledger, used, n, place, holds);
                 }
                 // After a firing: the activity has its tag at its place, and there are n tokens. Noted before `follow`, the run would be longer.
                 note(log, firings, ledger, place);
@@ -204,27 +204,12 @@ pub fn hold_first(
     flags: &Flags,
     ledger: &[u8],
     used: usize,
-    nexts: &mut Flags,
-    held: &mut Flags,
-    marks: &mut [u16],
+    holds: &mut Holds,
 )
-    requires { Followed (graph_of graph.now) bound tables.now flags.now ledger.now 0 used nexts.old held.old marks.old }
-    ensures { Holding (graph_of graph.now) bound tables.now flags.now ledger.now used nexts.new
-        held.new marks.new }
+    requires { Followed (graph_of graph.now) bound tables.now flags.now ledger.now 0 used holds.old.nexts holds.old.held holds.old.marks }
+    ensures { Holding (graph_of graph.now) bound tables.now flags.now ledger.now used holds.new.nexts holds.new.held holds.new.marks }
 {
-    held::follow(
-        &graph[0..],
-        tables,
-        flags,
-        &ledger[0..],
-        0,
-        used,
-        0,
-        bound,
-        nexts,
-        held,
-        marks,
-    );
+    holds.follow(&graph[0..], tables, flags, &ledger[0..], 0, used, 0, bound);
 }
 
 // "If only held ones remain, the answer is hung, at a used-up budget too.": what a run with a bound answered, where it ended.
@@ -270,20 +255,15 @@ pub fn proceed<O: Operate>(
         ≡ (end_keeping O.asks O.keeps order source.now (graph_of graph.now) tables.now ledger.old cells.old
         going.used going.budget by.old).kept }
 {
-    let mut nexts = Flags::new();
-    let mut held = Flags::new();
-    let mut marks = [0u16; 4096];
+    let mut holds = Holds::new();
     if let Order::Free(bound) = order {
-        hold_first(
-            bound, graph, tables, flags, ledger, going.used, &mut nexts, &mut held, &mut marks,
-        );
+        hold_first(bound, graph, tables, flags, ledger, going.used, &mut holds);
     }
     let own = turns(
-        graph, tables, order, source, by, links, flags, &mut nexts, &mut held, &mut marks, ledger,
-        cells, log, going,
+        graph, tables, order, source, by, links, flags, &mut holds, ledger, cells, log, going,
     );
     if let Order::Free(_) = order {
-        settle(tables, flags, &held, ledger, own)
+        settle(tables, flags, &holds.held, ledger, own)
     } else {
         own
     }

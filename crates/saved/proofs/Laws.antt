@@ -186,9 +186,6 @@ pub record Counts (test : ℕ → Bool) (i n : ℕ) : Type 0 where
   pub few : n ≤ i
   pub number : n ≡ count_up_to test i
 
-pub counts_none : (test : ℕ → Bool) → Counts test 0 0
-counts_none test = record { few = omega arith; number = refl }
-
 pub counts_more : (test : ℕ → Bool) (i n r : ℕ) → Counts test i n → r ≡ cond (test i) 1 0 → Counts test (i + 1) (n + r)
 counts_more test i n r c f = rw (add-one i) (go (test i) refl f)
   where
@@ -197,10 +194,6 @@ counts_more test i n r c f = rw (add-one i) (go (test i) refl f)
     go false e h = record { few = omega (arith, c.few); number = rw e (omega (arith, c.number)) }
 
 -- a test as a number
-
-pub byte_low : {r : ℕ} (b : Bool) → r ≡ from_bool b → r ≤ 1
-byte_low true e = omega (arith, e)
-byte_low false e = omega (arith, e)
 
 pub byte_cond : (b : Bool) → from_bool b ≡ cond b 1 0
 byte_cond true = refl

@@ -134,6 +134,7 @@ fn is_spent(content: Content) -> bool
     matches!(content, Content::Spent(_))
 }
 
+// A ledger is lent by the caller, as bytes: `used` of its records are tokens.
 fn spent_found(ledger: &[u8], used: usize, f: Option<usize>) -> bool
     requires { FoundWithin f used × (used ≤ length ledger.now / token_width) }
     ensures { result ≡ spent_found (token_at ledger.now) f }

@@ -15,4 +15,4 @@ pub returns-else-is_next : goal.returns-else-is_next
 returns-else-is_next c =
     let a = c.args in
     let t = c.read-t in
-    late_not (graph_of a.graph.now) a.bound t.result (token_at a.ledger.now a.i) t.ensures (sym c.is_next.ensures ∙ c.if-is_next.false)
+    c.if-is_next.false ∙ late_not (graph_of a.graph.now) a.bound t.result (token_at a.ledger.now a.i) t.ensures (sym c.is_next.ensures ∙ c.if-is_next.false)
