@@ -10,7 +10,7 @@ use lib.Dec.{eqb}
 use Rattle.rules.specs.Answer.{number_of, word_of, place_in, values_of}
 use Rattle.rules.specs.declared.answer.Refusal.{Refusal}
 use Rattle.rules.specs.declared.answer.Outcome.{Outcome}
-use Rattle.rules.specs.declared.answer.Outcome.TheVariants.{Completed, Hung, Spent, Refused}
+use Rattle.rules.specs.declared.answer.Outcome.TheVariants.{Completed, Hung, Spent}
 use Rattle.rules.specs.declared.answer.Answer.{Answer}
 use Rattle.abi.specs.Numbers.{packed, refusals, refusal_with, refusal_of, unplaced, placed, outcome_numbered, unpacked}
 
