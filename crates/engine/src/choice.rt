@@ -117,13 +117,8 @@ fn by_record(
     ensures { (flags held : List ℕ) → ChosenAs result Log log.now firings tables.now flags held ledger.now used }
 {
     let not_enabled = Outcome::Refused(Refusal::NotEnabled, firings);
-    let Some(tag) = name_at(log, firings) else {
-        return Err(not_enabled);
-    };
-    let Some(place) = place_named(tables, links, flags, ledger, used, tag) else {
-        return Err(not_enabled);
-    };
-    Ok(place)
+    let tag = name_at(log, firings).ok_or(not_enabled)?;
+    place_named(tables, links, flags, ledger, used, tag).ok_or(not_enabled)
 }
 
 // The place of number k of the activities that are not held back. Where none is, they are all that are enabled.
