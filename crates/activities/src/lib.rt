@@ -19,7 +19,7 @@ use checks::lent::Lent;
 use checks::stores::Stores;
 use held::Holds;
 use rules::answer::{Fault, Refusal};
-use store_enabled::Tables;
+use store_enabled::{Store, Tables};
 use store_flags::{Flags, Free};
 
 // What is found of a state: how many activities are enabled, and how many of these are held back.
@@ -82,19 +82,16 @@ fn count_taken(
 {
     let none = [0u8; 0];
     let mut tables = [0u16; store_enabled::TABLES_LENGTH];
-    let mut links = [0u16; store_chains::LENGTH];
-    let mut flags = Flags::new();
+    let mut store = Store::new();
     graph_tables::make(graph, &none, &mut tables);
-    if !saved::take(
-        graph, &tables, &mut links, &mut flags, ledger, cells, firings, used,
-    ) {
+    if !saved::take(graph, &tables, &mut store, ledger, cells, firings, used) {
         return Err(Refusal::DamagedState.at(0));
     }
-    let enabled = flags.count();
+    let enabled = store.flags.count();
     if bound == 0 {
         return Ok(Tally { enabled, held: 0 });
     }
-    let free = count_free(graph, &tables, &flags, ledger, used, bound);
+    let free = count_free(graph, &tables, &store.flags, ledger, used, bound);
     Ok(Tally {
         enabled,
         held: enabled - free,

@@ -16,8 +16,7 @@ use record::tag::Tag;
 use record::token::Token;
 use record::{log, pick};
 use rules::answer::{Outcome, Refusal};
-use store_chains::Links;
-use store_enabled::Tables;
+use store_enabled::{Store, Tables};
 use store_flags::Flags;
 
 // How the activity of a turn is chosen: the first of all, by picks, by the records of a log, or by picks among those that a
@@ -84,46 +83,39 @@ fn name_at(log: &[u8], i: usize) -> Option<Tag>
 // before any search.
 fn place_named(
     tables: &Tables,
-    links: &Links,
-    flags: &Flags,
+    store: &Store,
     ledger: &[u8],
     used: usize,
     tag: Tag,
 ) -> Option<usize>
-    requires { Matching tables.now links.now flags.now ledger.now used }
+    requires { Matching tables.now store.now.links store.now.flags ledger.now used }
     ensures { (result ≡ enabled_at tables.now (tokens used ledger.now) tag) × FoundWithin result used }
 {
-    if !flags.is_empty() {
-        let first = store::enabled_at(flags, 0);
+    if !store.flags.is_empty() {
+        let first = store::enabled_at(&store.flags, 0);
         let t = Token::read(ledger, first);
         if t.tag == tag {
             return Some(first);
         }
     }
-    store::enabled_by_tag(tables, links, ledger, used, tag)
+    store::enabled_by_tag(tables, store, ledger, used, tag)
 }
 
 // The one that the record of this turn names, if it is enabled.
 fn by_record(
     tables: &Tables,
-    links: &Links,
-    flags: &Flags,
+    store: &Store,
     ledger: &[u8],
     used: usize,
     log: &[u8],
     firings: usize,
 ) -> Result<usize, Outcome>
-    requires { Matching tables.now links.now flags.now ledger.now used }
+    requires { Matching tables.now store.now.links store.now.flags ledger.now used }
     ensures { (flags held : List ℕ) → ChosenAs result Log log.now firings tables.now flags held ledger.now used }
 {
     let not_enabled = Outcome::Refused(Refusal::NotEnabled, firings);
-    let Some(tag) = name_at(log, firings) else {
-        return Err(not_enabled);
-    };
-    let Some(place) = place_named(tables, links, flags, ledger, used, tag) else {
-        return Err(not_enabled);
-    };
-    Ok(place)
+    let tag = name_at(log, firings).ok_or(not_enabled)?;
+    place_named(tables, store, ledger, used, tag).ok_or(not_enabled)
 }
 
 // The place of number k of the activities that are not held back. Where none is, they are all that are enabled.
@@ -186,20 +178,27 @@ pub fn choose(
     source: &[u8],
     firings: usize,
     tables: &Tables,
-    links: &Links,
-    flags: &Flags,
+    store: &Store,
     held: Option<&Flags>,
     ledger: &[u8],
     used: usize,
 ) -> Result<usize, Outcome>
-    requires { Matching tables.now links.now flags.now ledger.now used × HeldBeside order flags.now (option_copied held) }
-    ensures { ChosenAs result order source.now firings tables.now flags.now (unwrap_or (option_copied held.entry) []) ledger.now used }
+    requires { Matching tables.now store.now.links store.now.flags ledger.now used × HeldBeside order store.now.flags (option_copied held) }
+    ensures { ChosenAs result order source.now firings tables.now store.now.flags (unwrap_or (option_copied held.entry) []) ledger.now used }
 {
     match order {
-        Order::Oldest => oldest(tables, flags, ledger, used),
-        Order::Picks => by_pick(tables, flags, ledger, used, source, firings),
-        Order::Log => by_record(tables, links, flags, ledger, used, source, firings),
-        Order::Free(_) => by_free(tables, flags, held.unwrap(), ledger, used, source, firings),
+        Order::Oldest => oldest(tables, &store.flags, ledger, used),
+        Order::Picks => by_pick(tables, &store.flags, ledger, used, source, firings),
+        Order::Log => by_record(tables, store, ledger, used, source, firings),
+        Order::Free(_) => by_free(
+            tables,
+            &store.flags,
+            held.unwrap(),
+            ledger,
+            used,
+            source,
+            firings,
+        ),
     }
 }
 

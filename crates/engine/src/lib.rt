@@ -25,9 +25,7 @@ use fire::Plain;
 use record::cell;
 use rules::answer;
 use rules::answer::{Answer, Fault, Refusal};
-use store_chains::Links;
-use store_enabled::Tables;
-use store_flags::Flags;
+use store_enabled::Store;
 
 // A run that passed every check.
 fn accepted(
@@ -99,12 +97,9 @@ fn resume(
         result ledger.old ledger.new cells.old cells.new }
 {
     let mut tables = [0u16; store_enabled::TABLES_LENGTH];
-    let mut links = [0u16; store_chains::LENGTH];
-    let mut flags = Flags::new();
+    let mut store = Store::new();
     graph_tables::make(graph, arrays, &mut tables);
-    if !saved::take(
-        graph, &tables, &mut links, &mut flags, ledger, cells, firings, used,
-    ) {
+    if !saved::take(graph, &tables, &mut store, ledger, cells, firings, used) {
         return answer::refused(Refusal::DamagedState.at(0));
     }
     let order = choice::order_under(picks, bound);
@@ -115,8 +110,7 @@ fn resume(
         order,
         picks,
         &mut Plain,
-        &mut links,
-        &mut flags,
+        &mut store,
         ledger,
         cells,
         &mut none,

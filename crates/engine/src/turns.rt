@@ -20,8 +20,7 @@ use record::log;
 use record::token::Token;
 use rules::answer;
 use rules::answer::{Answer, Outcome};
-use store_chains::Links;
-use store_enabled::Tables;
+use store_enabled::{Store, Tables};
 use store_flags::Flags;
 
 // The activity that fired in a turn, by its place, and how many tokens it left.
@@ -46,23 +45,22 @@ fn take_turn<O: Operate>(
     source: &[u8],
     firings: usize,
     by: &mut O,
-    links: &mut Links,
-    flags: &mut Flags,
+    store: &mut Store,
     held: &Flags,
     ledger: &mut [u8],
     cells: &mut [u8],
     used: usize,
 ) -> Result<Fired, Outcome>
     requires { Prepared graph.now tables.now
-        × Running (graph_of graph.now) tables.now links.old flags.old ledger.old cells.old used
-        × HeldBeside order flags.old (Some held.now)
-        × HeldBack order (graph_of graph.now) flags.old held.now ledger.old used
+        × Running (graph_of graph.now) tables.now store.old.links store.old.flags ledger.old cells.old used
+        × HeldBeside order store.old.flags (Some held.now)
+        × HeldBack order (graph_of graph.now) store.old.flags held.now ledger.old used
         × O.fits by.old used }
     ensures turned { Turned result (graph_of graph.now)
         (chooser_for order source.now (graph_of graph.now) tables.now ledger.old cells.old
         firings (state_in ledger.old cells.old used))
         (asked_by (O.asks by.old) (graph_of graph.now) tables.now ledger.old cells.old used) tables.now
-        links.new flags.new ledger.new cells.new used ledger.old cells.old }
+        store.new.links store.new.flags ledger.new cells.new used ledger.old cells.old }
     ensures kept { by.new
         ≡ kept_chosen
         (chooser_for order source.now (graph_of graph.now) tables.now ledger.old cells.old
@@ -74,13 +72,12 @@ fn take_turn<O: Operate>(
         source,
         firings,
         tables,
-        links,
-        flags,
+        store,
         Some(held),
         ledger,
         used,
     )?;
-    let fired = fire::fire(graph, tables, by, links, flags, ledger, cells, used, place);
+    let fired = fire::fire(graph, tables, by, store, ledger, cells, used, place);
     match fired {
         Ok(used) => Ok(Fired { place, used }),
         Err(r) => Err(Outcome::Refused(r, place)),
@@ -136,8 +133,7 @@ fn turns<O: Operate>(
     order: Order,
     source: &[u8],
     by: &mut O,
-    links: &mut Links,
-    flags: &mut Flags,
+    store: &mut Store,
     holds: &mut Holds,
     ledger: &mut [u8],
     cells: &mut [u8],
@@ -145,12 +141,12 @@ fn turns<O: Operate>(
     going: Going,
 ) -> Answer
     requires { Prepared graph.now tables.now
-        × Running (graph_of graph.now) tables.now links.old flags.old ledger.old cells.old going.used
-        × Bounding order (graph_of graph.now) tables.now flags.old ledger.old going.used holds.old.nexts holds.old.held holds.old.marks
+        × Running (graph_of graph.now) tables.now store.old.links store.old.flags ledger.old cells.old going.used
+        × Bounding order (graph_of graph.now) tables.now store.old.flags ledger.old going.used holds.old.nexts holds.old.held holds.old.marks
         × O.fits by.old going.used }
     ensures proceeded { Proceeded
         (end_keeping O.asks O.keeps order source.now (graph_of graph.now) tables.now ledger.old cells.old
-        going.used going.budget by.old).ended result (graph_of graph.now) tables.now links.new flags.new
+        going.used going.budget by.old).ended result (graph_of graph.now) tables.now store.new.links store.new.flags
         ledger.new cells.new going.used ledger.old cells.old }
     ensures log_after { log.new
         ≡ recorded
@@ -159,7 +155,7 @@ fn turns<O: Operate>(
     ensures kept { by.new
         ≡ (end_keeping O.asks O.keeps order source.now (graph_of graph.now) tables.now ledger.old cells.old
         going.used going.budget by.old).kept }
-    ensures bounding { Bounding order (graph_of graph.now) tables.now flags.new ledger.new result.tokens holds.new.nexts holds.new.held holds.new.marks }
+    ensures bounding { Bounding order (graph_of graph.now) tables.now store.new.flags ledger.new result.tokens holds.new.nexts holds.new.held holds.new.marks }
 {
     let budget = going.budget;
     let mut used = going.used;
@@ -171,8 +167,7 @@ fn turns<O: Operate>(
             source,
             firings,
             by,
-            links,
-            flags,
+            store,
             &holds.held,
             ledger,
             cells,
@@ -183,7 +178,17 @@ fn turns<O: Operate>(
                 let place = fired.place;
                 let n = fired.used;
                 if let Order::Free(bound) = order {
-                    follow(bound, graph, tables, flags, ledger, used, n, place, holds);
+                    follow(
+                        bound,
+                        graph,
+                        tables,
+                        &store.flags,
+                        ledger,
+                        used,
+                        n,
+                        place,
+                        holds,
+                    );
                 }
                 // After a firing: the activity has its tag at its place, and there are n tokens. Noted before `follow`, the run would be longer.
                 note(log, firings, ledger, place);
@@ -192,7 +197,7 @@ fn turns<O: Operate>(
             Err(outcome) => return answer::answered(outcome, firings, used),
         }
     }
-    let outcome = ending::rest(tables, flags, ledger, used);
+    let outcome = ending::rest(tables, &store.flags, ledger, used);
     answer::answered(outcome, budget, used)
 }
 
@@ -231,21 +236,20 @@ pub fn proceed<O: Operate>(
     order: Order,
     source: &[u8],
     by: &mut O,
-    links: &mut Links,
-    flags: &mut Flags,
+    store: &mut Store,
     ledger: &mut [u8],
     cells: &mut [u8],
     log: &mut [u8],
     going: Going,
 ) -> Answer
     requires { Prepared graph.now tables.now
-        × Running (graph_of graph.now) tables.now links.old flags.old ledger.old cells.old going.used
+        × Running (graph_of graph.now) tables.now store.old.links store.old.flags ledger.old cells.old going.used
         × BoundFits order
         × O.fits by.old going.used }
     ensures proceeded { Proceeded
         (settled_by order (graph_of graph.now) tables.now ledger.old cells.old
         (end_keeping O.asks O.keeps order source.now (graph_of graph.now) tables.now ledger.old cells.old
-        going.used going.budget by.old).ended) result (graph_of graph.now) tables.now links.new flags.new
+        going.used going.budget by.old).ended) result (graph_of graph.now) tables.now store.new.links store.new.flags
         ledger.new cells.new going.used ledger.old cells.old }
     ensures log_after { log.new
         ≡ recorded
@@ -257,13 +261,21 @@ pub fn proceed<O: Operate>(
 {
     let mut holds = Holds::new();
     if let Order::Free(bound) = order {
-        hold_first(bound, graph, tables, flags, ledger, going.used, &mut holds);
+        hold_first(
+            bound,
+            graph,
+            tables,
+            &store.flags,
+            ledger,
+            going.used,
+            &mut holds,
+        );
     }
     let own = turns(
-        graph, tables, order, source, by, links, flags, &mut holds, ledger, cells, log, going,
+        graph, tables, order, source, by, store, &mut holds, ledger, cells, log, going,
     );
     if let Order::Free(_) = order {
-        settle(tables, flags, &holds.held, ledger, own)
+        settle(tables, &store.flags, &holds.held, ledger, own)
     } else {
         own
     }
@@ -289,15 +301,13 @@ pub fn from_inputs<O: Operate>(
         ledger.old cells.old log.old ledger.new cells.new log.new }
 {
     let mut tables = [0u16; store_enabled::TABLES_LENGTH];
-    let mut links = [0u16; store_chains::LENGTH];
-    let mut flags = Flags::new();
+    let mut store = Store::new();
     let used = start::begin(
         graph,
         arrays,
         inputs,
         &mut tables,
-        &mut links,
-        &mut flags,
+        &mut store,
         ledger,
         cells,
     );
@@ -307,8 +317,7 @@ pub fn from_inputs<O: Operate>(
         order,
         source,
         by,
-        &mut links,
-        &mut flags,
+        &mut store,
         ledger,
         cells,
         log,

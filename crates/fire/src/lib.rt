@@ -34,9 +34,7 @@ use record::instruction::Instruction;
 use record::operation::Operation;
 use record::token::Token;
 use rules::answer::Refusal;
-use store_chains::Links;
-use store_enabled::Tables;
-use store_flags::Flags;
+use store_enabled::{Store, Tables};
 
 // An instruction set, by its operation, and what it keeps from one firing to the next. A run on values keeps nothing, a range run a table
 // of ranges.
@@ -127,21 +125,20 @@ pub fn fire<O: Operate>(
     graph: &[u8],
     tables: &Tables,
     by: &mut O,
-    links: &mut Links,
-    flags: &mut Flags,
+    store: &mut Store,
     ledger: &mut [u8],
     cells: &mut [u8],
     used: usize,
     place: usize,
 ) -> Result<usize, Refusal>
     requires { Prepared graph.now tables.now
-        × Running (graph_of graph.now) tables.now links.old flags.old ledger.old cells.old used
+        × Running (graph_of graph.now) tables.now store.old.links store.old.flags ledger.old cells.old used
         × (place < used)
         × (leads_in tables.now (tokens used ledger.old) place (token_at ledger.old place) ≡ true)
         × O.fits by.old used }
     ensures stepped { Stepped result (graph_of graph.now) (token_at ledger.old place).tag
         (asked_by (O.asks by.old) (graph_of graph.now) tables.now ledger.old cells.old used
-        (token_at ledger.old place).tag) tables.now links.new flags.new ledger.new
+        (token_at ledger.old place).tag) tables.now store.new.links store.new.flags ledger.new
         cells.new used ledger.old cells.old }
     ensures kept { by.new
         ≡ kept_by by.old (O.keeps by.old) (graph_of graph.now) tables.now ledger.old cells.old used
@@ -151,7 +148,7 @@ pub fn fire<O: Operate>(
     let t = Token::read(ledger, place);
     let tag = t.tag;
     let arity = store_enabled::arity(tables, tag);
-    let matched = fire_operands::operands_of(links, ledger, used, tag, arity, place);
+    let matched = fire_operands::operands_of(store, ledger, used, tag, arity, place);
     let left = matched.left;
     let right = matched.right;
     let operands = Places {
@@ -169,6 +166,6 @@ pub fn fire<O: Operate>(
     let outputs = tags::new_tags(graph, tables, o, tag, r, control)?;
     // Output.
     fire_commit::commit(
-        tables, links, flags, ledger, cells, used, operands, action, outputs,
+        tables, store, ledger, cells, used, operands, action, outputs,
     )
 }

@@ -9,7 +9,7 @@ ghost use Rattle.fire_operands.specs.Operands.{both_at, Earliest, matched_at};
 use record::codec::Decode;
 use record::tag::Tag;
 use record::token::{Content, Token};
-use store_chains::Links;
+use store_enabled::Store;
 
 // The operands of an enabled activity: one stands at its place, the other here, and the values are by ports. Where one is waited for,
 // it stands for both: no Option, since `store::spend_operands` spends both places without a test, and one given twice is spent once.
@@ -34,14 +34,14 @@ fn value_in(content: Content) -> i32
 // All operands of a tag, which are live. The token at the tag's place is one of them: the other is its partner, where there is
 // one.
 pub fn operands_of(
-    links: &Links,
+    store: &Store,
     ledger: &[u8],
     used: usize,
     tag: Tag,
     arity: u16,
     place: usize,
 ) -> Operands
-    requires { Known links.now ledger.now used × Earliest arity (tokens used ledger.now) tag place }
+    requires { Known store.now.links ledger.now used × Earliest arity (tokens used ledger.now) tag place }
     ensures { both_at (token_at ledger.now place).port place result.other result.left result.right ≡ matched_at arity (tokens used ledger.now) tag }
 {
     let t = Token::read(ledger, place);
@@ -54,7 +54,7 @@ pub fn operands_of(
             right: own,
         };
     }
-    let other = store::partner(links, place).unwrap_or(place);
+    let other = store::partner(store, place).unwrap_or(place);
     let u = Token::read(ledger, other);
     let found = u.content;
     let value = value_in(found);

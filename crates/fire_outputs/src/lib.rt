@@ -16,9 +16,8 @@ use fire_effect::output::{Key, Outputs};
 use record::cell::Cell;
 use record::codec::{Decode, Encode};
 use record::token::{Content, Token};
-use store_chains::{Links, Slot};
-use store_enabled::Tables;
-use store_flags::Flags;
+use store_chains::Slot;
+use store_enabled::{Store, Tables};
 
 // Where the operands of an activity stand in the ledger: at its place and at another; where it has one operand, that place twice.
 #[derive(Clone, Copy)]
@@ -30,28 +29,26 @@ pub struct Places {
 // An output goes in as record `used`, in its slot.
 fn append_one(
     tables: &Tables,
-    links: &mut Links,
-    flags: &mut Flags,
+    store: &mut Store,
     ledger: &mut [u8],
     used: usize,
     key: Key,
     content: Content,
     slot: Slot,
 )
-    requires { Matching tables.now links.old flags.old ledger.old used
+    requires { Matching tables.now store.old.links store.old.flags ledger.old used
         × (used < length ledger.old / token_width)
         × (used < 2048)
         × (key.port < 2)
         × LowCell content
         × Open (tokens used ledger.old) key.tag key.port slot }
-    ensures { Kept tables.now links.new flags.new ledger.new (used + 1)
+    ensures { Kept tables.now store.new.links store.new.flags ledger.new (used + 1)
         (tokens used ledger.old ++ token_out content key ∷ []) ledger.old }
 {
     let tag = key.tag;
     store::arrive(
         tables,
-        links,
-        flags,
+        store,
         ledger,
         used,
         Token {
@@ -66,8 +63,7 @@ fn append_one(
 // The outputs go into the ledger, destination 1 first: how many tokens it then has. One place writes them, so that it is no call.
 fn append_outputs(
     tables: &Tables,
-    links: &mut Links,
-    flags: &mut Flags,
+    store: &mut Store,
     ledger: &mut [u8],
     used: usize,
     outputs: Outputs,
@@ -75,21 +71,21 @@ fn append_outputs(
     first: Slot,
     second: Slot,
 ) -> usize
-    requires { Matching tables.now links.old flags.old ledger.old used
+    requires { Matching tables.now store.old.links store.old.flags ledger.old used
         × (used + outputs.count ≤ length ledger.old / token_width)
         × (length ledger.old / token_width ≤ 2048)
         × (outputs.count ≤ 2)
         × LowPorts outputs
         × LowCell content
         × OpenKeys (tokens used ledger.old) outputs first second }
-    ensures { (result ≡ used + outputs.count) × Kept tables.now links.new flags.new ledger.new (used + outputs.count)
+    ensures { (result ≡ used + outputs.count) × Kept tables.now store.new.links store.new.flags ledger.new (used + outputs.count)
         (tokens used ledger.old ++ output_tokens content outputs) ledger.old }
 {
     let n = outputs.count as usize;
     let mut key = outputs.first;
     let mut slot = first;
     for k in 0..n {
-        append_one(tables, links, flags, ledger, used + k, key, content, slot);
+        append_one(tables, store, ledger, used + k, key, content, slot);
         key = outputs.second;
         slot = second;
     }
@@ -128,29 +124,21 @@ fn change_cells(cells: &mut [u8], action: Action) -> Content
 }
 
 // A write wakes the tokens that are deferred on its cell.
-fn wake(
-    tables: &Tables,
-    links: &mut Links,
-    flags: &mut Flags,
-    ledger: &mut [u8],
-    used: usize,
-    action: Action,
-)
-    requires { Matching tables.now links.old flags.old ledger.old used × OnCells 1024 action }
-    ensures { Kept tables.now links.new flags.new ledger.new used
+fn wake(tables: &Tables, store: &mut Store, ledger: &mut [u8], used: usize, action: Action)
+    requires { Matching tables.now store.old.links store.old.flags ledger.old used × OnCells 1024 action }
+    ensures { Kept tables.now store.new.links store.new.flags ledger.new used
         (woken_by action (tokens used ledger.old)) ledger.old }
 {
     let Action::Write(number, v) = action else {
         return;
     };
-    store::wake(tables, links, flags, ledger, used, number, v);
+    store::wake(tables, store, ledger, used, number, v);
 }
 
 // A firing that nothing refuses: how many tokens the ledger then has.
 pub fn carry_out(
     tables: &Tables,
-    links: &mut Links,
-    flags: &mut Flags,
+    store: &mut Store,
     ledger: &mut [u8],
     cells: &mut [u8],
     used: usize,
@@ -160,23 +148,21 @@ pub fn carry_out(
     first: Slot,
     second: Slot,
 ) -> usize
-    requires { Fireable tables.now links.old flags.old ledger.old cells.old used operands.place operands.other
+    requires { Fireable tables.now store.old.links store.old.flags ledger.old cells.old used operands.place operands.other
         × (used + outputs.count ≤ length ledger.old / token_width)
         × (outputs.count ≤ 2)
         × LowPorts outputs
         × OnCells (length cells.old / cell_width) action
         × OpenKeys (tokens used ledger.old) outputs first second }
-    ensures { (result ≡ used + outputs.count) × Kept tables.now links.new flags.new ledger.new (used + outputs.count)
+    ensures { (result ≡ used + outputs.count) × Kept tables.now store.new.links store.new.flags ledger.new (used + outputs.count)
         (woken_by action (spent_at operands.place operands.other (tokens used ledger.old))
         ++ output_tokens (content_given action (cells_in cells.old)) outputs) ledger.old
         × CellsKept cells.new (cells_by action (cells_in cells.old)) cells.old }
 {
-    store::spend_operands(flags, ledger, operands.place, operands.other);
+    store::spend_operands(&mut store.flags, ledger, operands.place, operands.other);
     let content = change_cells(cells, action);
-    wake(tables, links, flags, ledger, used, action);
-    append_outputs(
-        tables, links, flags, ledger, used, outputs, content, first, second,
-    )
+    wake(tables, store, ledger, used, action);
+    append_outputs(tables, store, ledger, used, outputs, content, first, second)
 }
 
 // Whether an action writes a cell that is present.

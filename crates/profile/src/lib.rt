@@ -24,8 +24,7 @@ use fire::Plain;
 use record::codec::Decode;
 use record::token::Token;
 use rules::answer::{Answer, Fault, Outcome, Profiled, Refusal};
-use store_chains::Links;
-use store_enabled::Tables;
+use store_enabled::{Store, Tables};
 use store_flags::Flags;
 
 // The bytes of a step's record.
@@ -177,8 +176,7 @@ fn enabled_places(flags: &Flags, out: &mut [u16; 2048]) -> usize
 fn in_turn(
     graph: &[u8],
     tables: &Tables,
-    links: &mut Links,
-    flags: &mut Flags,
+    store: &mut Store,
     ledger: &mut [u8],
     cells: &mut [u8],
     places: &[u16; 2048],
@@ -186,10 +184,10 @@ fn in_turn(
     start: usize,
 ) -> Progress
     requires { Prepared graph.now tables.now
-        × Running (graph_of graph.now) tables.now links.old flags.old ledger.old cells.old start
-        × PlacesIn count flags.old places.now
+        × Running (graph_of graph.now) tables.now store.old.links store.old.flags ledger.old cells.old start
+        × PlacesIn count store.old.flags places.now
         × (0 < count) }
-    ensures { FiredAs result.outcome (graph_of graph.now) tables.now links.new flags.new ledger.new
+    ensures { FiredAs result.outcome (graph_of graph.now) tables.now store.new.links store.new.flags ledger.new
         cells.new result.firings result.tokens result.spent start ledger.old cells.old }
 {
     let mut used = start;
@@ -197,9 +195,7 @@ fn in_turn(
     for firings in 0..count {
         let place = places[firings] as usize;
         spent += operands_at(tables, ledger, place);
-        let fired = fire::fire(
-            graph, tables, &mut Plain, links, flags, ledger, cells, used, place,
-        );
+        let fired = fire::fire(graph, tables, &mut Plain, store, ledger, cells, used, place);
         match fired {
             Ok(n) => used = n,
             Err(r) => {
@@ -225,8 +221,7 @@ fn in_turn(
 fn step(
     graph: &[u8],
     tables: &Tables,
-    links: &mut Links,
-    flags: &mut Flags,
+    store: &mut Store,
     ledger: &mut [u8],
     cells: &mut [u8],
     places: &mut [u16; 2048],
@@ -234,14 +229,14 @@ fn step(
     live: usize,
 ) -> Result<Whole, Ended>
     requires { Prepared graph.now tables.now
-        × Running (graph_of graph.now) tables.now links.old flags.old ledger.old cells.old start
+        × Running (graph_of graph.now) tables.now store.old.links store.old.flags ledger.old cells.old start
         × (live ≡ unspent_at (graph_of graph.now) tables.now ledger.old cells.old start)
         × (length places.old ≡ 2048) }
-    ensures step_done { StepDone result (graph_of graph.now) tables.now links.new flags.new ledger.new
+    ensures step_done { StepDone result (graph_of graph.now) tables.now store.new.links store.new.flags ledger.new
         cells.new start ledger.old cells.old }
     ensures places_len { length places.new ≡ 2048 }
 {
-    let count = enabled_places(flags, places);
+    let count = enabled_places(&store.flags, places);
     if count == 0 {
         return Err(Ended {
             outcome: ending::ending(tables, ledger, start),
@@ -249,9 +244,7 @@ fn step(
             tokens: start,
         });
     }
-    let done = in_turn(
-        graph, tables, links, flags, ledger, cells, places, count, start,
-    );
+    let done = in_turn(graph, tables, store, ledger, cells, places, count, start);
     let outcome = done.outcome;
     let firings = done.firings;
     let tokens = done.tokens;
@@ -285,15 +278,14 @@ fn answered(outcome: Outcome, firings: usize, tokens: usize, records: usize) -> 
 fn proceed(
     graph: &[u8],
     tables: &Tables,
-    links: &mut Links,
-    flags: &mut Flags,
+    store: &mut Store,
     ledger: &mut [u8],
     cells: &mut [u8],
     profile: &mut [u8],
     start: usize,
 ) -> Profiled
     requires { Prepared graph.now tables.now
-        × Running (graph_of graph.now) tables.now links.old flags.old ledger.old cells.old start
+        × Running (graph_of graph.now) tables.now store.old.links store.old.flags ledger.old cells.old start
         × (start ≡ unspent_at (graph_of graph.now) tables.now ledger.old cells.old start) }
     ensures { ProfiledTo
         (profile_from (graph_of graph.now) (length profile.old / step_width) 0 tables.now ledger.old
@@ -309,8 +301,7 @@ fn proceed(
         let ended = step(
             graph,
             tables,
-            links,
-            flags,
+            store,
             ledger,
             cells,
             &mut places,
@@ -329,7 +320,7 @@ fn proceed(
             }
         }
     }
-    let outcome = no_record(tables, flags, ledger, used);
+    let outcome = no_record(tables, &store.flags, ledger, used);
     answered(outcome, firings, used, room)
 }
 
@@ -350,21 +341,17 @@ fn accepted(
         ledger.old cells.old profile.old ledger.new cells.new profile.new }
 {
     let mut tables = [0u16; store_enabled::TABLES_LENGTH];
-    let mut links = [0u16; store_chains::LENGTH];
-    let mut flags = Flags::new();
+    let mut store = Store::new();
     let used = start::begin(
         graph,
         arrays,
         inputs,
         &mut tables,
-        &mut links,
-        &mut flags,
+        &mut store,
         ledger,
         cells,
     );
-    proceed(
-        graph, &tables, &mut links, &mut flags, ledger, cells, profile, used,
-    )
+    proceed(graph, &tables, &mut store, ledger, cells, profile, used)
 }
 
 // A profile over lent bytes: its answer, and what it leaves in ledger, cells and profile, are what the rules give.

@@ -28,9 +28,7 @@ use record::operation::OperandCounts;
 use record::tag::Tag;
 use record::token::{Content, Token};
 use record::{cell, instruction, token};
-use store_chains::Links;
-use store_enabled::Tables;
-use store_flags::Flags;
+use store_enabled::{Store, Tables};
 
 // The most levels of calls.
 const LEVELS: usize = 8;
@@ -105,12 +103,12 @@ fn arrives(
     graph: &[u8],
     tables: &Tables,
     sites: &Entered,
-    links: &Links,
+    store: &Store,
     ledger: &[u8],
     count: usize,
     i: usize,
 ) -> bool
-    requires { (i < length ledger.now / token_width) × Known links.now ledger.now i × EnteredSites (graph_of graph.now) sites.now × Arities (graph_of graph.now) tables.now }
+    requires { (i < length ledger.now / token_width) × Known store.now.links ledger.now i × EnteredSites (graph_of graph.now) sites.now × Arities (graph_of graph.now) tables.now }
     ensures value { result ≡ arrives_at (graph_of graph.now) tables.now ledger.now count i }
     ensures i_value { result ≡ true → (encode_token (token_at ledger.now i) ≡ take token_width (drop (i * token_width) ledger.now)) × TokenFits (token_at ledger.now i) }
 {
@@ -125,7 +123,7 @@ fn arrives(
     if !content_allowed(tables, count, t) {
         return false;
     }
-    store::find(links, ledger, i, tag, t.port).is_none()
+    store::find(store, ledger, i, tag, t.port).is_none()
 }
 
 fn is_spent(content: Content) -> bool
@@ -155,15 +153,15 @@ fn spent_of_two(tables: &Tables, t: Token) -> bool
 }
 
 // Whether record i, which is t, is such an operand and the other one came before it, spent too.
-fn closes(tables: &Tables, links: &Links, ledger: &[u8], i: usize, t: Token) -> bool
-    requires { (t ≡ token_at ledger.now i) × (t.port < 2) × Known links.now ledger.now i }
+fn closes(tables: &Tables, store: &Store, ledger: &[u8], i: usize, t: Token) -> bool
+    requires { (t ≡ token_at ledger.now i) × (t.port < 2) × Known store.now.links ledger.now i }
     ensures { result ≡ closes_at tables.now ledger.now i }
 {
     if !spent_of_two(tables, t) {
         return false;
     }
     let tag = t.tag;
-    spent_found(ledger, i, store::find(links, ledger, i, tag, 1 - t.port))
+    spent_found(ledger, i, store::find(store, ledger, i, tag, 1 - t.port))
 }
 
 // Whether t is a spent token on port 0: it stands for its tag's firing.
@@ -180,36 +178,35 @@ fn enter(
     graph: &[u8],
     tables: &Tables,
     sites: &Entered,
-    links: &mut Links,
-    flags: &mut Flags,
+    store: &mut Store,
     ledger: &[u8],
     count: usize,
     firings: usize,
     used: usize,
 ) -> bool
-    requires { Matching tables.now links.old flags.old ledger.now 0
+    requires { Matching tables.now store.old.links store.old.flags ledger.now 0
         × (used ≤ length ledger.now / token_width) × (length ledger.now / token_width ≤ 2048) × (count ≤ 1024)
         × EnteredSites (graph_of graph.now) sites.now × Arities (graph_of graph.now) tables.now }
     ensures value { result ≡ enters_all (graph_of graph.now) tables.now ledger.now count firings used }
-    ensures cases { result ≡ true → Matching tables.now links.new flags.new ledger.now used }
+    ensures cases { result ≡ true → Matching tables.now store.new.links store.new.flags ledger.now used }
 {
     let mut fired = 0;
     let mut of_two = 0;
     let mut closed = 0;
     for i in 0..used {
-        if !arrives(graph, tables, sites, links, ledger, count, i) {
+        if !arrives(graph, tables, sites, store, ledger, count, i) {
             return false;
         }
         let t = Token::read(ledger, i);
         fired += usize::from(first_spent(t));
         of_two += usize::from(spent_of_two(tables, t));
-        closed += usize::from(closes(tables, links, ledger, i, t));
+        closed += usize::from(closes(tables, store, ledger, i, t));
         let tag = t.tag;
-        let Some(slot) = store::seek(links, ledger, i, tag, t.port) else {
+        let Some(slot) = store::seek(store, ledger, i, tag, t.port) else {
             // `arrives` found none there.
             return false;
         };
-        store::enter(tables, links, flags, ledger, i, t, slot);
+        store::enter(tables, store, ledger, i, t, slot);
     }
     closed * 2 == of_two && fired == firings
 }
@@ -230,27 +227,27 @@ fn cell_allowed(s: &[u8]) -> bool
 }
 
 // Whether cell c is right: it is waiting exactly where a token is deferred on it.
-fn cell_right(links: &Links, cells: &[u8], c: usize) -> bool
+fn cell_right(store: &Store, cells: &[u8], c: usize) -> bool
     requires { (c < length cells.now / cell_width) × (c < 1024) }
-    ensures by_index { (tables flags ledger : List ℕ) (used : ℕ) → Matching tables links.now flags ledger used → result ≡ cell_right (tokens used ledger) cells.now c }
+    ensures by_index { (tables flags ledger : List ℕ) (used : ℕ) → Matching tables store.now.links flags ledger used → result ≡ cell_right (tokens used ledger) cells.now c }
     ensures cell_bytes { result ≡ true → CellBytes cells.now c }
 {
     if !cell_allowed(buffer::row_at(cells, cell::WIDTH, c)) {
         return false;
     }
     let x = Cell::read(cells, c);
-    store::any_deferred(links, c) == is_waiting(x)
+    store::any_deferred(store, c) == is_waiting(x)
 }
 
 // The pass over the cells.
-fn cells_right(links: &Links, cells: &[u8]) -> bool
+fn cells_right(store: &Store, cells: &[u8]) -> bool
     requires { length cells.now / cell_width ≤ 1024 }
-    ensures by_index { (tables flags ledger : List ℕ) (used : ℕ) → Matching tables links.now flags ledger used
+    ensures by_index { (tables flags ledger : List ℕ) (used : ℕ) → Matching tables store.now.links flags ledger used
         → result ≡ all_up_to (cell_right (tokens used ledger) cells.now) (length cells.now / cell_width) }
     ensures cell_bytes { result ≡ true → (c : ℕ) → c < length cells.now / cell_width → CellBytes cells.now c }
 {
     for c in 0..cells.len() / cell::WIDTH {
-        if !cell_right(links, cells, c) {
+        if !cell_right(store, cells, c) {
             return false;
         }
     }
@@ -261,8 +258,7 @@ fn cells_right(links: &Links, cells: &[u8]) -> bool
 pub fn take(
     graph: &[u8],
     tables: &Tables,
-    links: &mut Links,
-    flags: &mut Flags,
+    store: &mut Store,
     ledger: &[u8],
     cells: &[u8],
     firings: usize,
@@ -270,19 +266,17 @@ pub fn take(
 ) -> bool
     requires { Prepared graph.now tables.now
         × (length ledger.now / token_width ≤ 2048) × (length cells.now % cell_width ≡ 0) × (length cells.now / cell_width ≤ 1024)
-        × (links.old ≡ replicate 11264 0) × (flags.old ≡ replicate 2048 0) }
+        × (store.old.links ≡ replicate 11264 0) × (store.old.flags ≡ replicate 2048 0) }
     ensures value { result ≡ state_taken graph.now ledger.now cells.now firings used }
-    ensures running { result ≡ true → Running (graph_of graph.now) tables.now links.new flags.new ledger.now cells.now used }
+    ensures running { result ≡ true → Running (graph_of graph.now) tables.now store.new.links store.new.flags ledger.now cells.now used }
 {
     if ledger.len() / token::WIDTH < used {
         return false;
     }
     let sites = find_sites(graph);
     let count = cells.len() / cell::WIDTH;
-    if !enter(
-        graph, tables, &sites, links, flags, ledger, count, firings, used,
-    ) {
+    if !enter(graph, tables, &sites, store, ledger, count, firings, used) {
         return false;
     }
-    cells_right(links, cells)
+    cells_right(store, cells)
 }

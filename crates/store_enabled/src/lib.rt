@@ -2,7 +2,7 @@
 // operands of an activity are spent, and the flag of its activity is put right.
 #![tactic(auto)]
 
-ghost use Rattle.std.specs.Prelude.{◌≡◌, true, ◌&&◌, List, [], ◌∷◌, ◌++◌, ℕ, ◌+◌, ◌/◌, ◌<◌, ltb, length, get_or, set, Some};
+ghost use Rattle.std.specs.Prelude.{◌≡◌, true, ◌&&◌, List, [], ◌∷◌, ◌++◌, ℕ, ◌+◌, ◌/◌, ◌<◌, ltb, length, get_or, set, replicate, Some};
 ghost use Rattle.buffer.specs.Rows.{put_row};
 ghost use Rattle.record.specs.TokensAndTags.{encode_token, tokens, token_at, stands_at};
 ghost use Rattle.record.specs.Widths.{token_width};
@@ -23,6 +23,26 @@ use store_flags::Flags;
 pub const TABLES_LENGTH: usize = 641;
 
 pub type Tables = [u16; TABLES_LENGTH];
+
+// What a run keeps beside the records of its ledger: chains through them, and the flags of the enabled activities. The ledger is the
+// caller's bytes, and the tables are read alone, so both are lent beside it (the C interface).
+#[derive(Drop)]
+pub struct Store {
+    pub flags: Flags,
+    pub links: Links,
+}
+
+impl Store {
+    // Of an empty ledger.
+    pub fn new() -> Store
+        ensures { (result.links ≡ replicate 11264 0) × (result.flags ≡ replicate 2048 0) }
+    {
+        Store {
+            flags: Flags::new(),
+            links: [0; store_chains::LENGTH],
+        }
+    }
+}
 
 // Whether what was found is live: the state of its record is 0.
 fn live(ledger: &[u8], f: Option<usize>) -> bool
@@ -73,8 +93,7 @@ fn ready_with(
 // Raises the flag of the activity of the token at `own`, if its operands are all live. Its own port is
 // known, so only the partner is looked up.
 fn settle_changed(
-    flags: &mut Flags,
-    links: &Links,
+    store: &mut Store,
     ledger: &[u8],
     used: usize,
     own: usize,
@@ -82,16 +101,17 @@ fn settle_changed(
     port: u8,
     operands: u16,
 )
-    requires { Known links.now ledger.now used × (own < used) × (port < 2) × (first_from (stands_at tag port) 0 (tokens used ledger.now) ≡ Some own) }
-    ensures flags_after { flags.new
-        ≡ raised_if (operands_live operands (tokens used ledger.now) tag) flags.old
+    requires { Known store.old.links ledger.now used × (own < used) × (port < 2) × (first_from (stands_at tag port) 0 (tokens used ledger.now) ≡ Some own) }
+    ensures links_kept { store.new.links ≡ store.old.links }
+    ensures flags_after { store.new.flags
+        ≡ raised_if (operands_live operands (tokens used ledger.now) tag) store.old.flags
         (earliest_of (tokens used ledger.now) tag) }
 {
-    let other = store_chains::partner(links, own);
+    let other = store_chains::partner(&store.links, own);
     if ready_with(ledger, port, Some(own), other, operands) {
         let place = own.min(other.unwrap_or(own));
-        if !flags.is_raised(place) {
-            flags.raise(place);
+        if !store.flags.is_raised(place) {
+            store.flags.raise(place);
         }
     }
 }
@@ -188,16 +208,16 @@ pub fn arity(tables: &[u16], tag: Tag) -> u16
 // The place of the activity of a tag, if it is enabled: its operands are found by their ports.
 pub fn enabled_by_tag(
     tables: &Tables,
-    links: &Links,
+    store: &Store,
     ledger: &[u8],
     used: usize,
     tag: Tag,
 ) -> Option<usize>
-    requires { Known links.now ledger.now used }
+    requires { Known store.now.links ledger.now used }
     ensures { (result ≡ enabled_at tables.now (tokens used ledger.now) tag) × FoundWithin result used }
 {
-    let first = store_chains::find(links, ledger, used, tag, 0);
-    let second = store_chains::find(links, ledger, used, tag, 1);
+    let first = store_chains::find(&store.links, ledger, used, tag, 0);
+    let second = store_chains::find(&store.links, ledger, used, tag, 1);
     if ready(ledger, first, second, arity(tables, tag)) {
         Some(first.unwrap_or(used).min(second.unwrap_or(used)))
     } else {
@@ -208,14 +228,13 @@ pub fn enabled_by_tag(
 // Adds t after the used records, in its slot. A flag that was raised stays.
 pub fn append(
     tables: &Tables,
-    links: &mut Links,
-    flags: &mut Flags,
+    store: &mut Store,
     ledger: &mut [u8],
     used: usize,
     t: Token,
     slot: Slot,
 )
-    requires { Stored tables.now links.old flags.old ledger.old used
+    requires { Stored tables.now store.old.links store.old.flags ledger.old used
         × (used < length ledger.old / token_width)
         × (used < 2048)
         × (t.port < 2)
@@ -223,48 +242,40 @@ pub fn append(
         × Open (tokens used ledger.old) t.tag t.port slot }
     ensures ledger_after { ledger.new ≡ put_row token_width ledger.old used (encode_token t) }
     ensures ledger_after_2 { tokens (used + 1) ledger.new ≡ tokens used ledger.old ++ t ∷ [] }
-    ensures stored { Stored tables.now links.new flags.new ledger.new (used + 1) }
-    ensures waiting { Waiting links.old (tokens used ledger.old) → Waiting links.new (tokens (used + 1) ledger.new) }
+    ensures stored { Stored tables.now store.new.links store.new.flags ledger.new (used + 1) }
+    ensures waiting { Waiting store.old.links (tokens used ledger.old) → Waiting store.new.links (tokens (used + 1) ledger.new) }
 {
     let tag = t.tag;
     t.write(ledger, used);
-    store_chains::enter(links, used, t, slot);
+    store_chains::enter(&mut store.links, used, t, slot);
     let entry = entry_of(tables, tag.instruction);
     let other = slot.partner;
     let content = t.content;
     if let Content::Live(_) = content {
-        settle_arrived(flags, ledger, used, tag, t.port, other, entry);
+        settle_arrived(&mut store.flags, ledger, used, tag, t.port, other, entry);
     }
 }
 
 // Enters the token t that stands in record `used` already, in its slot. One that is not live enables nothing. `settle_arrived` is not called: a
 // second caller would cost each arrival of a run a call.
-pub fn enter(
-    tables: &Tables,
-    links: &mut Links,
-    flags: &mut Flags,
-    ledger: &[u8],
-    used: usize,
-    t: Token,
-    slot: Slot,
-)
-    requires { Stored tables.now links.old flags.old ledger.now used
+pub fn enter(tables: &Tables, store: &mut Store, ledger: &[u8], used: usize, t: Token, slot: Slot)
+    requires { Stored tables.now store.old.links store.old.flags ledger.now used
         × (used < length ledger.now / token_width)
         × (used < 2048)
         × StandingRecord tables.now ledger.now used t
         × LowCell t.content
         × Open (tokens used ledger.now) t.tag t.port slot }
     ensures ledger_value { tokens (used + 1) ledger.now ≡ tokens used ledger.now ++ t ∷ [] }
-    ensures stored { Stored tables.now links.new flags.new ledger.now (used + 1) }
-    ensures waiting { Waiting links.old (tokens used ledger.now) → Waiting links.new (tokens (used + 1) ledger.now) }
+    ensures stored { Stored tables.now store.new.links store.new.flags ledger.now (used + 1) }
+    ensures waiting { Waiting store.old.links (tokens used ledger.now) → Waiting store.new.links (tokens (used + 1) ledger.now) }
 {
     let tag = t.tag;
-    store_chains::enter(links, used, t, slot);
+    store_chains::enter(&mut store.links, used, t, slot);
     let content = t.content;
     if let Content::Live(_) = content {
         let other = slot.partner;
         if completes(ledger, other, arity(tables, tag)) {
-            flags.raise(other.unwrap_or(used));
+            store.flags.raise(other.unwrap_or(used));
         }
     }
 }
@@ -272,26 +283,26 @@ pub fn enter(
 // Puts t, of the same tag and port, in the place of token i. What was live stays so, and so does a flag that was raised.
 pub fn change(
     tables: &Tables,
-    links: &Links,
-    flags: &mut Flags,
+    store: &mut Store,
     ledger: &mut [u8],
     used: usize,
     i: usize,
     t: Token,
 )
-    requires { Stored tables.now links.now flags.old ledger.old used
+    requires { Stored tables.now store.old.links store.old.flags ledger.old used
         × (i < used)
         × (t.tag ≡ (token_at ledger.old i).tag)
         × (t.port ≡ (token_at ledger.old i).port)
         × (is_live_record (token_at ledger.old i).content ≡ true → is_live_record t.content ≡ true) }
     ensures ledger_after { ledger.new ≡ put_row token_width ledger.old i (encode_token t) }
     ensures ledger_after_2 { tokens used ledger.new ≡ set (tokens used ledger.old) i t }
-    ensures stored { Stored tables.now links.now flags.new ledger.new used }
+    ensures links_kept { store.new.links ≡ store.old.links }
+    ensures stored { Stored tables.now store.new.links store.new.flags ledger.new used }
 {
     let tag = t.tag;
     t.write(ledger, i);
     let operands = arity(tables, tag);
-    settle_changed(flags, links, ledger, used, i, tag, t.port, operands);
+    settle_changed(store, ledger, used, i, tag, t.port, operands);
 }
 
 // Spends the operands of an enabled activity, which stand at its place and at another; where one is waited for, both are its place. The

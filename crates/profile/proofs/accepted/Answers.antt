@@ -7,7 +7,7 @@ use Rattle.profile.proofs.accepted.Goals as goal
 pub begin-used-requires : goal.begin-used-requires
 begin-used-requires c =
     let a = c.args in
-    (accepted_by a.graph.now a.arrays.now a.inputs.now (length a.ledger.now) (length a.cells.now) (length a.profile.now) c.requires, refl, c.new-flags.ensures)
+    (accepted_by a.graph.now a.arrays.now a.inputs.now (length a.ledger.now) (length a.cells.now) (length a.profile.now) c.requires, c.new-store.ensures.0, c.new-store.ensures.1)
 
 pub proceed-requires : goal.proceed-requires
 proceed-requires c =

@@ -12,12 +12,12 @@ loop-firings-init c = begun _ c.requires.0 c.requires.1 c.requires.2
 
 pub offset_bounds-places-firings : goal.offset_bounds-places-firings
 offset_bounds-places-firings c =
-    let few : c.args.count ≤ 2048 = omega (arith, c.requires.2.counted, places_few c.args.flags.now (matching_list c.requires.1.matching)) in
+    let few : c.args.count ≤ 2048 = omega (arith, c.requires.2.counted, places_few c.args.store.now.flags (matching_list c.requires.1.matching)) in
     omega (arith, few, c.loop-firings-test.true)
 
 pub bounds-places-firings : goal.bounds-places-firings
 bounds-places-firings c =
-    let few : c.args.count ≤ 2048 = omega (arith, c.requires.2.counted, places_few c.args.flags.now (matching_list c.requires.1.matching)) in
+    let few : c.args.count ≤ 2048 = omega (arith, c.requires.2.counted, places_few c.args.store.now.flags (matching_list c.requires.1.matching)) in
     omega (arith, few, c.loop-firings-test.true)
 
 pub operands_at-spent-requires : goal.operands_at-spent-requires
@@ -25,7 +25,7 @@ operands_at-spent-requires c = let n = next_here _ c.requires.0 c.requires.1 c.r
 
 pub overflow_add-spent : goal.overflow_add-spent
 overflow_add-spent c =
-    let few : c.args.count ≤ 2048 = omega (arith, c.requires.2.counted, places_few c.args.flags.now (matching_list c.requires.1.matching)) in
+    let few : c.args.count ≤ 2048 = omega (arith, c.requires.2.counted, places_few c.args.store.now.flags (matching_list c.requires.1.matching)) in
     let here = next_here _ c.requires.0 c.requires.1 c.requires.2 c.loop-firings.invariant c.loop-firings-test.true in
     omega (arith, few, c.loop-firings-test.true, c.loop-firings.invariant.few, c.operands_at-spent.ensures, here.standing.arity.1)
 

@@ -7,5 +7,5 @@ use Rattle.profile.proofs.proceed.Given as goal
 
 abbrev pub invariant-loop-records : goal.invariant-loop-records
 invariant-loop-records l =
-    SoFar (graph_of l.graph) l.initial.ledger l.initial.cells l.initial.profile l.start l.room l.tables l.links l.flags l.ledger l.cells l.profile l.used l.unspent l.firings l.records
+    SoFar (graph_of l.graph) l.initial.ledger l.initial.cells l.initial.profile l.start l.room l.tables l.store.links l.store.flags l.ledger l.cells l.profile l.used l.unspent l.firings l.records
     × (length l.places ≡ 2048)

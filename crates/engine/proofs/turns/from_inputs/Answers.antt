@@ -4,7 +4,7 @@ use Rattle.engine.proofs.Accepting.{used_all}
 use Rattle.engine.proofs.turns.from_inputs.Goals as goal
 
 pub begin-used-requires : goal.begin-used-requires
-begin-used-requires g c = (c.requires.0, refl, c.new-flags.ensures)
+begin-used-requires g c = (c.requires.0, c.new-store.ensures.0, c.new-store.ensures.1)
 
 pub proceed-requires : goal.proceed-requires
 proceed-requires g c =
