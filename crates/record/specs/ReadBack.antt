@@ -1,3 +1,4 @@
+-- Working definition: no public promise cites it.
 -- A value is read back from its bytes, whatever stands behind them: the law of each kind of record that is written (`Encode` in the code). Assumes nothing.
 use Rattle.std.proofs.Common.{◌≡◌, ℕ, ◌%◌, List, [], ◌++◌, refl}
 use Rattle.number.specs.Number.{bits_of}
