@@ -50,6 +50,7 @@ fn oldest(tables: &Tables, flags: &Flags, ledger: &[u8], used: usize) -> Result<
 }
 
 // The one that the pick of this turn takes.
+#[tactic(auto, unfolding(rules::specs::Run::picks_of))]
 fn by_pick(
     tables: &Tables,
     flags: &Flags,

@@ -85,6 +85,7 @@ fn take_turn<O: Operate>(
 }
 
 // Writes the record of firing i, of the activity at a place, if the log has room for it. A run without a log has one of no bytes.
+#[tactic(auto, unfolding(crate::specs::Turns::log_noted))]
 fn note(log: &mut [u8], i: usize, ledger: &[u8], place: usize)
     requires { place < length ledger.now / token_width }
     ensures { log.new ≡ log_noted log.old i (token_at ledger.now place).tag }
