@@ -12,7 +12,8 @@ use record::token::{Content, Token};
 use store_enabled::Store;
 
 // The operands of an enabled activity: one stands at its place, the other here, and the values are by ports. Where one is waited for,
-// it stands for both: no Option, since `store::spend_operands` spends both places without a test, and one given twice is spent once.
+// it stands for both: no Option, since `states_spent`, by which `store::spend_operands` promises what it does, is of two places, and one
+// that is given twice is spent once.
 #[derive(Clone, Copy)]
 pub struct Operands {
     pub other: usize,

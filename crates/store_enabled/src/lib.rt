@@ -130,7 +130,8 @@ fn completes(ledger: &[u8], other: Option<usize>, operands: u16) -> bool
     false
 }
 
-// LEAVE's entry in the tables of a graph; any other entry is an operand count. It stays a number, as it stands in the tables.
+// LEAVE's entry in the tables of a graph; any other entry is an operand count. It stays a number: the tables are
+// one array of numbers in fixed memory, and `arity_of`, which the contracts cite, reads each entry there.
 pub const LEAVE_ENTRY: u16 = 3;
 
 // Whether a live token on a port of a tag is an operand and completes its activity, by the entry of its instruction. The path is looked
