@@ -72,7 +72,7 @@ fn ready(graph: &[u8], sent: &[bool; 512], i: usize) -> bool
     sent[at + 1]
 }
 
-// What is reached so far.
+// What is reached so far. That the graph passed its check is said of its bytes, which are the caller's.
 #[derive(Drop)]
 struct SoFar {
     sent: [bool; 512],

@@ -42,6 +42,7 @@ enum Operation {
     Add = 16,
 }
 
+// How many destinations an operation has here.
 fn fan_out(operation: Operation) -> u8 {
     match operation {
         Operation::Out | Operation::Leave => 0,
@@ -71,6 +72,7 @@ fn put(graph: &mut [u8], i: usize, operation: Operation, first: u16, second: u16
     r.write(graph, i);
 }
 
+// Input i, a live token. The port is a number, as `Token` has it.
 fn put_input(inputs: &mut [u8], i: usize, instruction: u16, port: u8, value: i32)
     requires { i < length inputs.old / token_width }
 {

@@ -8,7 +8,7 @@ use crate::constant;
 use record::instruction::{Destination, Instruction};
 use record::operation::Operation;
 
-// A `match` here gives what an operation has, as a row of 01's table does, and chooses no step.
+// The matches here give what an operation has, as a row of 01's table does, and choose no step.
 fn least(operation: Operation) -> u8
     ensures { (code : ℕ) → operation_of code ≡ operation → result ≡ (row_of code).least_fan_out }
 {

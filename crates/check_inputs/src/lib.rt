@@ -48,7 +48,8 @@ pub fn fields(graph: &[u8], inputs: &[u8]) -> Result<(), Fault>
     Ok(())
 }
 
-// Whether one of the first n tokens stands at a port of a tag.
+// Whether one of the first n tokens stands at a port of a tag. The inputs are lent bytes, so those before one go by their number, and a
+// port is a number, as it stands in them.
 fn taken(inputs: &[u8], n: usize, tag: Tag, port: u8) -> bool
     requires { n ≤ length inputs.now / token_width }
     ensures { result ≡ any (stands_at tag port) (take n (input_tokens inputs.now)) }

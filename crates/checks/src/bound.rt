@@ -5,7 +5,7 @@ ghost use Rattle.rules.specs.Bounded.{good_bound, and_bound};
 use crate::lent::Lent;
 use rules::answer::{Fault, Refusal};
 
-// 02, R-9: from 2 to 256, or 0 for none.
+// 02, R-9: from 2 to 256, or 0 for none, as C lends it.
 fn good(bound: usize) -> bool
     ensures { result ≡ good_bound bound }
 {

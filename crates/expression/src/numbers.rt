@@ -41,6 +41,7 @@ fn number_of(t: Term, before: usize, i: usize, n: usize) -> usize
     }
 }
 
+// By number: a record, and its entry in the table.
 pub fn numbers(expression: &[u8]) -> [u16; MOST]
     requires { check_expression expression.now ≡ Ok tt }
     ensures { NumberedRecords expression.now result }

@@ -15,7 +15,7 @@ use record::instruction::{Destination, Instruction};
 use record::term;
 use record::term::Term;
 
-// The codes of COPY and OUT.
+// The codes of COPY and OUT. Numbers, since the code of an operation on two records is its kind.
 const COPY: u8 = 1;
 
 const OUT: u8 = 3;

@@ -37,7 +37,7 @@ fn entry_at(counts: &OperandCounts, graph: &[u8], i: usize) -> u16
     }
 }
 
-// The entries for operand counts, behind all else.
+// The entries for operand counts, behind all else. That the graph passed its check is said of its bytes, which are the caller's.
 fn arities(graph: &[u8], out: &mut Tables)
     requires { (check_graph graph.now ≡ Ok tt) × (length out.old ≡ 641) }
     ensures arities { Arities (graph_of graph.now) out.new × (length out.new ≡ 641) }
@@ -49,7 +49,7 @@ fn arities(graph: &[u8], out: &mut Tables)
     }
 }
 
-// Puts the return of an ENTER into the table.
+// Puts the return of an ENTER into the table. Not by `Entered`: the tables of a run are one array of numbers (docs/DECISIONS.md, 103).
 fn note(out: &mut Tables, r: Instruction)
     ensures { out.new ≡ at_site out.old r r.second.instruction }
 {
