@@ -149,11 +149,7 @@ fn has_line(cells: &[u8], k: usize) -> bool
     requires { k < length cells.now / cell_width }
     ensures { result ≡ false → Cells.cell_of_record cells.now k ≡ Absent }
 {
-    match Cell::read(cells, k) {
-        Cell::Absent => false,
-        Cell::Waiting => true,
-        Cell::Present(_) => true,
-    }
+    !matches!(Cell::read(cells, k), Cell::Absent)
 }
 
 // All bits of the states of the eight cells from k on.

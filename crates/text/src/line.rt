@@ -266,10 +266,8 @@ pub fn keep_path(text: &mut [u8], count: usize, last: Path, path: Path) -> usize
     requires { PathText text.old count last }
     ensures { PathText text.new result path }
 {
-    if path.low == last.low {
-        if path.high == last.high {
-            return count;
-        }
+    if path == last {
+        return count;
     }
     make_path(text, path)
 }
