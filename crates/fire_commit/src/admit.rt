@@ -28,6 +28,7 @@ fn beside(first: Key, second: Key, slot: Slot, used: usize) -> Slot
 }
 
 // Where the outputs of a firing may arrive in the ledger, each once those before it have: refusal 8, then 9.
+// The caller lends the ledger's bytes, so the number of its tokens goes beside them.
 pub fn admit(
     store: &Store,
     ledger: &[u8],

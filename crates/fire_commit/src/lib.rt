@@ -17,6 +17,7 @@ use store_enabled::{Store, Tables};
 
 // An action on ledger and cells, and its outputs: gives the number of tokens in the ledger after it. What
 // refuses them is asked before anything is written: 11, then 8 and 9. A refusal leaves both as they were.
+// The caller lends the ledger's bytes, so the number of its tokens goes beside them.
 pub fn commit(
     tables: &Tables,
     store: &mut Store,

@@ -130,6 +130,7 @@ pub fn new_tags(
     requires { ReadyForTags graph.now tables.now o r }
     ensures { Makes result (new_tags_of o (graph_of graph.now) tag r b) }
 {
+    // The operation is data of the graph: a match, and no table of functions, which would hand out function pointers.
     match o {
         Operation::Sink => to_none(tag),
         Operation::Out => to_none(tag),

@@ -33,7 +33,8 @@ fn value_in(content: Content) -> i32
 }
 
 // All operands of a tag, which are live. The token at the tag's place is one of them: the other is its partner, where there is
-// one.
+// one. The arity is a number, as `store_enabled::arity` gives it.
+// The caller lends the ledger's bytes, so the number of its tokens goes beside them.
 pub fn operands_of(
     store: &Store,
     ledger: &[u8],

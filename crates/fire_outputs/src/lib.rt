@@ -27,6 +27,7 @@ pub struct Places {
 }
 
 // An output goes in as record `used`, in its slot.
+// The caller lends the ledger's bytes, so the number of its tokens goes beside them.
 fn append_one(
     tables: &Tables,
     store: &mut Store,
@@ -61,6 +62,8 @@ fn append_one(
 }
 
 // The outputs go into the ledger, destination 1 first: how many tokens it then has. One place writes them, so that it is no call.
+// That the ports are low is no invariant of `Outputs`: `under` makes them of any instruction and asks nothing of it. Outputs and slots are
+// no struct: one would be made in `commit` for one call alone, and taken apart here.
 fn append_outputs(
     tables: &Tables,
     store: &mut Store,
@@ -107,12 +110,14 @@ fn fetch(cells: &mut [u8], number: u32) -> Content
     Content::Live(v)
 }
 
-// What an action makes of the cells; the answer is the content of its outputs. Those of STORE are signals of value 0.
+// What an action makes of the cells; the answer is the content of its outputs. Those of STORE are signals of value 0. That an action's cell
+// is one of these is said in the clauses: how many there are, the caller says.
 fn change_cells(cells: &mut [u8], action: Action) -> Content
     requires { CellStore cells.old × OnCells (length cells.old / cell_width) action }
     ensures value { result ≡ content_given action (cells_in cells.old) }
     ensures cells_kept { CellsKept cells.new (cells_by action (cells_in cells.old)) cells.old }
 {
+    // A match takes apart what an action carries; it chooses no function.
     match action {
         Action::Send(v) => Content::Live(v),
         Action::Read(number) => fetch(cells, number),

@@ -7,7 +7,8 @@ ghost use Rattle.start.specs.Begun.{Accepted, Begun};
 
 use store_enabled::{Store, Tables};
 
-// The answer is the number of input tokens. The arrays of the matching store are lent empty.
+// The answer is the number of input tokens. The arrays of the matching store are lent empty. That graph, arrays and inputs passed their
+// checks is said of the lent bytes, and of no type.
 pub fn begin(
     graph: &[u8],
     arrays: &[u8],

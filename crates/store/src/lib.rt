@@ -1,6 +1,8 @@
 // The matching store: a ledger, with two arrays beside it. By `links` a token is found by its tag and port, and the tokens
 // deferred on a cell are woken; by `flags` the enabled activities are counted and found by their number; an activity is found by its
-// tag; all without a scan of the ledger. `used` is the number of tokens in the ledger, and `tables` those of the graph.
+// tag; all without a scan of the ledger. `used` is the number of tokens in the ledger, and `tables` those of the graph. The caller lends the
+// ledger's bytes, so the number of its tokens goes beside them; and `Matching` and `Known` stand in the clauses and are no invariants of a
+// type, since they speak of those bytes.
 #![tactic(auto)]
 
 ghost use Rattle.std.specs.Prelude.{◌≡◌, List, [], ◌∷◌, ◌++◌, map, ℕ, ◌+◌, ◌*◌, ◌/◌, ◌<◌, length, get_or, drop};
@@ -23,7 +25,7 @@ use store_chains::Slot;
 use store_enabled::{Store, Tables};
 use store_flags::Flags;
 
-// The token that stands at a port of a tag.
+// The token that stands at a port of a tag. A port is a number, as in the records of the lent ledger (`Token`).
 pub fn find(store: &Store, ledger: &[u8], used: usize, tag: Tag, port: u8) -> Option<usize>
     requires { Known store.now.links ledger.now used }
     ensures { (result ≡ first_from (stands_at tag port) 0 (tokens used ledger.now)) × FoundWithin result used }

@@ -25,7 +25,8 @@ pub const TABLES_LENGTH: usize = 641;
 pub type Tables = [u16; TABLES_LENGTH];
 
 // What a run keeps beside the records of its ledger: chains through them, and the flags of the enabled activities. The ledger is the
-// caller's bytes, and the tables are read alone, so both are lent beside it (the C interface).
+// caller's bytes (the C interface) and the tables are only read, so both go beside it. The flags stand first: with the links first a run
+// took up to 3 % more instructions.
 #[derive(Drop)]
 pub struct Store {
     pub flags: Flags,
@@ -55,7 +56,8 @@ fn live(ledger: &[u8], f: Option<usize>) -> bool
     }
 }
 
-// Whether all operands of an activity are live, where f and g stand on its ports.
+// Whether all operands of an activity are live, where f and g stand on its ports. Operand counts are numbers, as they stand in the tables of
+// a graph: one array with the returns and the named arrays (docs/DECISIONS.md, 103).
 fn ready(ledger: &[u8], f: Option<usize>, g: Option<usize>, operands: u16) -> bool
     requires { FoundWithin f (length ledger.now / token_width) × FoundWithin g (length ledger.now / token_width) }
     ensures { result ≡ ready_of operands (live_found (token_at ledger.now) f) (live_found (token_at ledger.now) g) }
@@ -72,7 +74,7 @@ fn ready(ledger: &[u8], f: Option<usize>, g: Option<usize>, operands: u16) -> bo
     false
 }
 
-// The same, where `own` stands on a port and `other` on the other one.
+// The same, where `own` stands on a port and `other` on the other one. A port is a number, as in the records of the lent ledger (`Token`).
 fn ready_with(
     ledger: &[u8],
     port: u8,
@@ -92,6 +94,7 @@ fn ready_with(
 
 // Raises the flag of the activity of the token at `own`, if its operands are all live. Its own port is
 // known, so only the partner is looked up.
+// The caller lends the ledger's bytes, so the number of its tokens goes beside them.
 fn settle_changed(
     store: &mut Store,
     ledger: &[u8],
@@ -226,7 +229,8 @@ pub fn enabled_by_tag(
     }
 }
 
-// Adds t after the used records, in its slot. A flag that was raised stays.
+// Adds t after the used records, in its slot. A flag that was raised stays. `Stored` is no invariant of the store: it speaks of the ledger's
+// bytes too, which are the caller's.
 pub fn append(
     tables: &Tables,
     store: &mut Store,
