@@ -12,7 +12,7 @@ use denote.Enum.Declared.{tag_of}
 use types.Run.{OneOf}
 use Rattle.record.specs.GraphRecords.{Row, table, row_with, no_row, row_of, operation_of, names_array, uses_constant}
 use Rattle.record.specs.declared.operation.Operation.{Operation}
-use Rattle.record.specs.declared.operation.Operation.TheVariants.{Out, Enter, Leave}
+use Rattle.record.specs.declared.operation.Operation.TheVariants.{Out, Switch, Enter, Leave}
 use Rattle.record.specs.contracts.operation.Operation.{the_type}
 use Rattle.rules.specs.Check.{all}
 use Rattle.check_fields.proofs.Turns.{and-true, and_left, and_right}
@@ -84,8 +84,17 @@ naming = false ∷ false ∷ false ∷ false ∷ false ∷ false ∷ false ∷ f
 abbrev pub using : List Bool
 using = false ∷ false ∷ false ∷ true ∷ false ∷ false ∷ false ∷ true ∷ true ∷ true ∷ true ∷ false ∷ true ∷ []
 
+abbrev pub looping : List Bool
+looping = false ∷ false ∷ false ∷ false ∷ false ∷ false ∷ true ∷ true ∷ true ∷ []
+
+abbrev pub on_two : List Bool
+on_two = false ∷ false ∷ false ∷ false ∷ false ∷ false ∷ false ∷ false ∷ false ∷ false ∷ false ∷ true ∷ []
+
 abbrev outs : List Bool
 outs = false ∷ false ∷ true ∷ []
+
+abbrev switches : List Bool
+switches = false ∷ false ∷ false ∷ false ∷ true ∷ []
 
 abbrev enters : List Bool
 enters = false ∷ false ∷ false ∷ false ∷ false ∷ false ∷ false ∷ true ∷ []
@@ -105,9 +114,21 @@ unfolding uses_constant names_array row_of below
 uses = by_operation uses_constant using tt (λ n h.
     rw (past_one 4 n (omega arith) h, past_one 8 n (omega arith) h, past_one 9 n (omega arith) h, past_one 10 n (omega arith) h, past_one 11 n (omega arith) h, lt-leb n 39 h, and_false (leb 32 n)))
 
+loops : (n : ℕ) → (leb 7 n && leb n 9) ≡ flag_of looping (operation_of n)
+unfolding row_of below
+loops = by_operation (λ n. leb 7 n && leb n 9) looping tt (λ n h. rw (lt-leb n 9 (omega arith)) (and_false (leb 7 n)))
+
+twos : (n : ℕ) → (leb 16 n && leb n 23) ≡ flag_of on_two (operation_of n)
+unfolding row_of below
+twos = by_operation (λ n. leb 16 n && leb n 23) on_two tt (λ n h. rw (lt-leb n 23 (omega arith)) (and_false (leb 16 n)))
+
 is_out : (n : ℕ) → eqb n 3 ≡ flag_of outs (operation_of n)
 unfolding row_of below
 is_out = by_operation (λ n. eqb n 3) outs tt (λ n h. past_one 3 n (omega arith) h)
+
+is_switch : (n : ℕ) → eqb n 5 ≡ flag_of switches (operation_of n)
+unfolding row_of below
+is_switch = by_operation (λ n. eqb n 5) switches tt (λ n h. past_one 5 n (omega arith) h)
 
 is_enter : (n : ℕ) → eqb n 8 ≡ flag_of enters (operation_of n)
 unfolding row_of below
@@ -126,11 +147,20 @@ module _ (n : ℕ) (v : Bool) (ks : List ℕ) (one : OneOf ks (tag_of the_type (
   pub uses_among : T (all (λ k. same (get_or using k false) v) ks) → v ≡ uses_constant n
   uses_among t = sym (uses n ∙ among using v ks t _ one)
 
+  pub loops_among : T (all (λ k. same (get_or looping k false) v) ks) → v ≡ (leb 7 n && leb n 9)
+  loops_among t = sym (loops n ∙ among looping v ks t _ one)
+
+  pub on_two_among : T (all (λ k. same (get_or on_two k false) v) ks) → v ≡ (leb 16 n && leb n 23)
+  on_two_among t = sym (twos n ∙ among on_two v ks t _ one)
+
 -- ---- an operation of one code
 
 module _ (n : ℕ) where
   pub out_code : operation_of n ≡ Out → n ≡ 3
   out_code e = eqb-true n 3 (is_out n ∙ ap (flag_of outs) e)
+
+  pub switch_code : operation_of n ≡ Switch → n ≡ 5
+  switch_code e = eqb-true n 5 (is_switch n ∙ ap (flag_of switches) e)
 
   pub enter_code : operation_of n ≡ Enter → n ≡ 8
   enter_code e = eqb-true n 8 (is_enter n ∙ ap (flag_of enters) e)
@@ -149,3 +179,7 @@ module _ (n : ℕ) where
   pub not_out : ¬ (operation_of n ≡ Out) → ¬ (n ≡ 3)
   unfolding row_of
   not_out h e = h (ap operation_of e)
+
+  pub not_switch : ¬ (operation_of n ≡ Switch) → ¬ (n ≡ 5)
+  unfolding row_of
+  not_switch h e = h (ap operation_of e)

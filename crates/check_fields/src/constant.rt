@@ -16,10 +16,7 @@ pub fn is_zero(constant: i32) -> bool
 pub fn names_array(operation: Operation) -> bool
     ensures { (code : ℕ) → operation_of code ≡ operation → result ≡ names_array code }
 {
-    match operation {
-        Operation::Fetch | Operation::Store => true,
-        _ => false,
-    }
+    matches!(operation, Operation::Fetch | Operation::Store)
 }
 
 // A constant of 0 to 255.

@@ -42,15 +42,15 @@ fn allowed(r: Instruction) -> bool
 fn uses_constant(operation: Operation) -> bool
     ensures { (code : ℕ) → operation_of code ≡ operation → result ≡ uses_constant code }
 {
-    match operation {
+    matches!(
+        operation,
         Operation::Const
-        | Operation::Enter
-        | Operation::Leave
-        | Operation::Fetch
-        | Operation::Store
-        | Operation::OnConstant(_) => true,
-        _ => false,
-    }
+            | Operation::Enter
+            | Operation::Leave
+            | Operation::Fetch
+            | Operation::Store
+            | Operation::OnConstant(_)
+    )
 }
 
 // A destination is in use, or its fields are zero.
@@ -61,10 +61,10 @@ fn used_or_zero(used: bool, d: Destination) -> bool
 }
 
 // The constant is used, or it is zero.
-fn constant_used_or_zero(code: u8, value: i32) -> bool
-    ensures { result ≡ uses_constant code || eq_z value (pos 0) }
+fn constant_used_or_zero(operation: Operation, value: i32) -> bool
+    ensures { (code : ℕ) → operation_of code ≡ operation → result ≡ uses_constant code || eq_z value (pos 0) }
 {
-    uses_constant(Operation::from(code)) || constant::is_zero(value)
+    uses_constant(operation) || constant::is_zero(value)
 }
 
 fn unused_are_zero(r: Instruction) -> bool
@@ -75,7 +75,7 @@ fn unused_are_zero(r: Instruction) -> bool
     let second = r.second;
     used_or_zero(1 <= fan_out, first)
         && (used_or_zero(2 <= fan_out, second)
-            && (constant_used_or_zero(r.code, r.constant) && r.zeros == 0))
+            && (constant_used_or_zero(Operation::from(r.code), r.constant) && r.zeros == 0))
 }
 
 pub fn good(r: Instruction) -> bool

@@ -37,10 +37,7 @@ impl Model for Entered {
 fn other(known: Option<u16>, i: u16) -> bool
     ensures { result ≡ is_other known i }
 {
-    match known {
-        Some(j) => j != i,
-        None => false,
-    }
+    known.is_some_and(|j| j != i)
 }
 
 impl Entered {
