@@ -44,7 +44,7 @@ fn div(a: i32, b: i32) -> Option<i32>
     a.checked_div(b)
 }
 
-// Any number by -1 leaves 0; `checked_rem` has none at the least number.
+// Divided by -1, any number leaves 0; `checked_rem` gives None for the least one.
 fn rem(a: i32, b: i32) -> Option<i32>
     ensures { result ≡ compute_of Arithmetic.Rem a b }
 {

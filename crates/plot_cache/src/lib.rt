@@ -49,6 +49,7 @@ pub struct Ended {
 }
 
 // Whether two runs start alike: one graph, one table of named arrays, one list of inputs, one capacity and one cell count.
+// No derived `==` of `Request`: two of one machine may differ in their orders.
 fn same_machine(kept: &Request<'_>, asked: &Request<'_>) -> bool
     ensures { result ≡
         same_machine kept.now.graph asked.now.graph kept.now.arrays asked.now.arrays

@@ -18,7 +18,7 @@ pub enum Cell {
     Present(i32),
 }
 
-// The cell of a record's value and state. Each state has one, as in the definition, and `state_allowed` refuses those past 2.
+// The cell of a record's value and state. Every state gives one, as in the definition `cell_of`; `state_allowed` refuses those past 2.
 #[tactic(auto, unfolding(crate::specs::Cells::cell_of))]
 fn cell_of(bits: u32, state: u8) -> Cell
     ensures { result ≡ Cells.cell_of bits state }
@@ -43,7 +43,7 @@ impl Decode for Cell {
     }
 }
 
-// The bytes of a record's fields.
+// The bytes of a record's fields, the state as its byte.
 fn bytes_of(value: u32, state: u8) -> [u8; WIDTH]
     ensures { result ≡ Cells.bytes_of_cell value state }
 {

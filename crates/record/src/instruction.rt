@@ -57,7 +57,7 @@ impl Decode for Instruction {
     }
 }
 
-// The bytes of a record's fields.
+// The bytes of a record's fields, which are numbers as they stand there.
 fn bytes_of(
     code: u8,
     fanout: u8,

@@ -14,7 +14,7 @@ pub const WIDTH: usize = 20;
 const ZERO: usize = 17;
 
 // Writes the record of a tag, which is the start of a token record on port 0, as record i of a log; every other byte stays. No
-// `Encode`: a second list of a tag's bytes would stand here.
+// `Encode` of its own, which would list a tag's bytes a second time.
 #[tactic(auto, unfolding(crate::specs::TokensAndTags::encode_token, crate::specs::Logs::encode_activity))]
 pub fn put_tag(log: &mut [u8], i: usize, tag: Tag)
     requires { i < length log.old / log_width }

@@ -32,8 +32,8 @@ pub enum Operation {
     OnTwo(Arithmetic),
     // The right operand is the constant.
     OnConstant(Arithmetic),
-    // Any other code. No Option in its place: the rules give each instruction of any graph an effect (`effect_of`), this one too, and
-    // an Option would put a second match round each match on an operation.
+    // Any other code. No Option in its place: the rules give each instruction of any graph an effect (`effect_of`), and so this one, and
+    // an Option would put a second match around each match on an operation.
     Unknown,
 }
 
@@ -101,7 +101,7 @@ pub fn count_of(counts: &[u8; 256], code: u8) -> u8
     counts[code as usize]
 }
 
-// The table with what it says.
+// The table with what it says. Codes are asked for as they stand in a lent graph: one that is unknown is found out by its count.
 #[derive(Drop)]
 pub struct OperandCounts {
     table: [u8; 256],

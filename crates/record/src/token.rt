@@ -27,8 +27,8 @@ pub enum Content {
     Deferred(u32),
 }
 
-// The port is whatever stands there: inputs and saved ledgers are lent through the C interface, and their checks, which refuse a port
-// that the instruction lacks, read them in this form.
+// The port is whatever stands there, and so it is a number wherever tokens are looked for: inputs and saved ledgers are lent through the C
+// interface, and their checks, which refuse a port that the instruction lacks, read them in this form.
 #[derive(Clone, Copy)]
 pub struct Token {
     pub tag: Tag,
@@ -36,7 +36,7 @@ pub struct Token {
     pub content: Content,
 }
 
-// The content of a record's value and state. Each state has one, as in the definition, and `state_allowed` refuses those past 2.
+// The content of a record's value and state. Every state gives one, as in the definition `content_of`; `state_allowed` refuses those past 2.
 #[tactic(auto, unfolding(crate::specs::TokensAndTags::content_of))]
 fn content_of(bits: u32, state: u8) -> Content
     ensures { result ≡ content_of bits state }
@@ -86,7 +86,7 @@ fn value_of(content: Content) -> u32
     }
 }
 
-// The bytes of a record's fields.
+// The bytes of a record's fields, which are numbers as they stand there.
 fn bytes_of(
     path: Path,
     iteration: u8,

@@ -45,6 +45,7 @@ fn show_token(rt: &impl Print, t: Token) -> io::Result<()> {
     println!(rt)
 }
 
+// The port is a number: 255, which no instruction has, is tried too.
 fn show_tokens(rt: &impl Print, tag: Tag, port: u8) -> io::Result<()> {
     show_token(
         rt,
