@@ -131,7 +131,7 @@ fn by_zero(op: Arithmetic, b: Range) -> bool
 fn of_outcomes(op: Arithmetic, a: Range, b: Range) -> Option<Range>
     ensures { result ≡ in_bits (Ranges.outcomes op a b) }
 {
-    // A match and no closure: the operation is data of the graph.
+    // The operation is data of the graph: a match, and no table of functions, which would hand out function pointers.
     match op {
         Arithmetic::Rem => remainders(a, b),
         Arithmetic::Eq => equalities(a, b),

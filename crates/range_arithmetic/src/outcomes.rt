@@ -63,6 +63,7 @@ pub fn truth(t: bool) -> i64
     i64::from(t)
 }
 
+// The operation is data of the graph: a match, and no table of functions, which would hand out function pointers.
 #[tactic(auto, unfolding(arithmetic::specs::Ranges::outcome))]
 pub fn outcome(op: Arithmetic, x: i32, y: i32) -> i64
     ensures { result ≡ Ranges.outcome op x y }

@@ -16,6 +16,7 @@ use record::operation::Operation;
 use rules::answer::Refusal;
 
 // 23: "a SWITCH control that may be zero or not".
+#[tactic(auto, unfolding(rules::specs::RangeSet::is_undecided))]
 fn undecided(control: Range) -> bool
     ensures { result ≡ is_undecided control }
 {
@@ -57,6 +58,7 @@ pub fn operate(
 {
     let x = table.meaning(a);
     let y = table.meaning(b);
+    // The operation is data of the graph: a match, and no table of functions, which would hand out function pointers.
     match o {
         Operation::Const => anew(table, Some(Range { low: k, high: k })),
         Operation::OnTwo(op) => anew(table, range_arithmetic::range(op, x, y)),

@@ -29,6 +29,7 @@ pub struct Ends {
 }
 
 // "the cell number in both if deferred".
+#[tactic(auto, unfolding(crate::specs::Left::ends_of))]
 fn ends_of(table: &RangeTable, content: Content) -> Ends
     ensures { result ≡ ends_of table.now content }
 {
@@ -78,7 +79,7 @@ fn token_bytes(table: &RangeTable, t: Token) -> [u8; TOKEN_WIDTH]
     with_high(&plain, e.high)
 }
 
-// The first tokens of a ledger over handles.
+// The first tokens of a ledger over handles. The ledger's bytes are lent, so the number of its tokens goes beside them.
 pub fn put_tokens(table: &RangeTable, ledger: &[u8], used: usize, out: &mut [u8])
     requires { (used ≤ length ledger.now / token_width) × (used ≤ length out.old / range_token_width) }
     ensures { out.new ≡ written_over encode_range (tokens_meant table.now (tokens used ledger.now)) out.old }
@@ -102,7 +103,7 @@ fn cell_bytes(table: &RangeTable, cell: Cell) -> [u8; CELL_WIDTH]
     }
 }
 
-// The first cells of a store over handles.
+// The first cells of a store over handles. A loop of its own: a trait for tokens and cells would be longer than it.
 pub fn put_cells(table: &RangeTable, store: &[u8], n: usize, out: &mut [u8])
     requires { (n ≤ length store.now / cell_width) × (n ≤ length out.old / range_cell_width) }
     ensures { out.new ≡ written_over encode_range_cell (cells_meant table.now (cells n store.now)) out.old }

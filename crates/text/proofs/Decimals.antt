@@ -9,7 +9,8 @@ use mathlib.Core.List.{[], ◌∷◌, ◌++◌, append-nil, append_assoc}
 use borrow.Author.Tests.{ltb-true, ltb-false, lt-ltb, le-ltb}
 use lib.Dec.{ltb}
 use lib.ListN.{length, length-append}
-use lib.IntN.{ℤ, pos, negsuc}
+use lib.IntN.{ℤ, pos, negsuc, nat_abs}
+use lib.Signed.{lt_z}
 use mir.Syntax.{w32}
 use mir.Val.{SFits}
 use Rattle.number.specs.Number.{bits_of}
@@ -117,6 +118,10 @@ pub short : (n : ℕ) → n < 2 ^ 64 → length (decimal n) ≤ 20
 short n h = at_most 19 n (omega arith)
 
 -- ---- signed numbers, by their bits
+
+pub signed_minus : (z : ℤ) → lt_z z (pos 0) ≡ true → signed_decimal z ≡ 45 ∷ decimal (nat_abs z)
+signed_minus (pos n) e = absurd (omega (arith, ltb-true n 0 e))
+signed_minus (negsuc n) e = refl
 
 pub signed_up : (z : ℤ) (b : ℕ) → SFits w32 z → b ≡ bits_of z → b < 2147483648 → signed_decimal z ≡ decimal b
 unfolding bits_of

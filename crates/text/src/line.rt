@@ -144,18 +144,17 @@ fn put_path(out: &mut [u8], at: usize, path: Path, end: u8) -> usize
     put_byte(out, k, end)
 }
 
-// Puts a signed number, and the byte that ends the field. The magnitude of a number below 0 is what its
-// bits lack of 2 to the 32, so the least number needs no case of its own.
+// Puts a signed number, and the byte that ends the field.
 fn put_signed(out: &mut [u8], at: usize, value: i32, end: u8) -> usize
     requires { RoomForText out.old at (signed_decimal value ++ end ∷ []) }
     ensures { AddedText out.old out.new at result (signed_decimal value ++ end ∷ []) }
 {
-    let bits = number::bits(value);
-    if bits < 2147483648 {
-        put_number(out, at, bits as u64, end)
-    } else {
+    let magnitude = u64::from(value.unsigned_abs());
+    if value < 0 {
         let k = put_byte(out, at, b'-');
-        put_number(out, k, 4294967296 - bits as u64, end)
+        put_number(out, k, magnitude, end)
+    } else {
+        put_number(out, at, magnitude, end)
     }
 }
 
@@ -332,7 +331,7 @@ pub fn put_record(
     put_rest(out, rest, small, s)
 }
 
-// The path of the record that s starts with.
+// The path of the record that s starts with, alone: `put_record` reads the rest.
 pub fn path_of(s: &[u8]) -> Path
     requires { token_width ≤ length s.now }
     ensures { result ≡ path_in s.now }

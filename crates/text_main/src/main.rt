@@ -51,6 +51,7 @@ const GREATEST: Path = Path {
     high: 18446744073709551615,
 };
 
+// The port is a number: 255, which no instruction has, is printed too.
 fn token_of(path: Path, iteration: u8, instruction: u16, port: u8, content: Content) -> Token {
     let tag = Tag {
         path,
