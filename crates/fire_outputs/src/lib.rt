@@ -178,10 +178,5 @@ pub fn writes_again(cells: &[u8], action: Action) -> bool
     let Action::Write(number, _) = action else {
         return false;
     };
-    let found = Cell::read(cells, number as usize);
-    if let Cell::Present(_) = found {
-        true
-    } else {
-        false
-    }
+    matches!(Cell::read(cells, number as usize), Cell::Present(_))
 }
