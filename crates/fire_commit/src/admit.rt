@@ -29,6 +29,7 @@ fn beside(first: Key, second: Key, slot: Slot, used: usize) -> Slot
 
 // Where the outputs of a firing may arrive in the ledger, each once those before it have: refusal 8, then 9.
 // The caller lends the ledger's bytes, so the number of its tokens goes beside them.
+#[tactic(auto, unfolding(crate::specs::Admitted::admitted_of, crate::specs::Admitted::any_taken_of, crate::specs::Admitted::is_taken))]
 pub fn admit(
     store: &Store,
     ledger: &[u8],

@@ -111,6 +111,7 @@ fn store(tables: &[u16], k: i32, a: i32, b: i32, cells: usize) -> Result<Action,
 // What an operation gives, with its constant k and the operands a and b on ports 0 and 1: a value, a
 // request to a cell, or a refusal. What moves tokens only, or makes tags, gives the value on port 0. Instruction and operands go one by
 // one: a struct of them would be made at each call, and taken apart at once.
+#[tactic(auto, unfolding(crate::specs::Effects::operated_of))]
 pub fn operate(
     tables: &[u16],
     o: Operation,

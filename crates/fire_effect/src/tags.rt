@@ -48,6 +48,7 @@ fn to_none(tag: Tag) -> Result<Outputs, Refusal>
 }
 
 // SWITCH: "port 0 to destination 1 if port 1 is not 0, else to destination 2".
+#[tactic(auto, unfolding(rules::specs::InstructionSet::side_of))]
 fn switch(control: i32, tag: Tag, r: Instruction) -> Result<Outputs, Refusal>
     ensures { Makes result (λ v. Machine.send v (key_under tag (side_of control r) ∷ [])) }
 {
@@ -119,6 +120,7 @@ fn leave(graph: &[u8], tables: &Tables, tag: Tag, r: Instruction) -> Result<Outp
 // Where an operation's tokens go: r is the instruction of the tag, and b the operand on port 1.
 // `tables` has the return instruction of each site. The graph has passed its check, so that a site or
 // a LEAVE constant is at most a byte, and an instruction of the graph fits 16 bits.
+#[tactic(auto, unfolding(crate::specs::Effects::new_tags_of))]
 pub fn new_tags(
     graph: &[u8],
     tables: &Tables,

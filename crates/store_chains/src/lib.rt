@@ -44,12 +44,14 @@ pub struct Slot {
 }
 
 // A product spreads what stands in each half over the bits from 2^20 on.
+#[tactic(auto, unfolding(crate::specs::Chains::mix))]
 fn mixed(calls: u64) -> u64
     ensures { (result ≡ mix calls) × (result < 9223372036854775808) }
 {
     calls % 4294967296 * 668265261 + calls / 4294967296 * 374761393
 }
 
+#[tactic(auto, unfolding(crate::specs::Chains::bucket_of))]
 fn bucket(tag: Tag) -> usize
     ensures { (result ≡ bucket_of tag) × (result < 4096) }
 {

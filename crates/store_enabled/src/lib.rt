@@ -139,6 +139,7 @@ pub const LEAVE_ENTRY: u16 = 3;
 
 // Whether a live token on a port of a tag is an operand and completes its activity, by the entry of its instruction. The path is looked
 // at for LEAVE alone, and no number is made of it.
+#[tactic(auto, unfolding(crate::specs::Enabled::waited_for))]
 fn completes_by(ledger: &[u8], other: Option<usize>, entry: u16, tag: Tag, port: u8) -> bool
     requires { FoundWithin other (length ledger.now / token_width) × (port < 2) }
     ensures { result ≡ ltb port (waited_for entry tag) && ready_of (waited_for entry tag) true (live_found (token_at ledger.now) other) }
@@ -184,6 +185,7 @@ fn settle_arrived(
 
 // How many operands the activity of a tag waits for, by the entry of its instruction. R-5: a token at a LEAVE under path 0 is
 // a result.
+#[tactic(auto, unfolding(crate::specs::Enabled::waited_for))]
 fn waited_for(entry: u16, tag: Tag) -> u16
     ensures { result ≡ waited_for entry tag }
 {

@@ -11,17 +11,9 @@ pub returns-then-entry-eq1 : goal.returns-then-entry-eq1
 unfolding waited_for
 returns-then-entry-eq1 c = rw c.if-entry-eq1.true (first_port c.args.port)
 
-pub live-requires : goal.live-requires
-unfolding waited_for
-live-requires c = search rules
-
 pub returns-then-entry-eq2 : goal.returns-then-entry-eq2
 unfolding waited_for
 returns-then-entry-eq2 c = rw (c.if-entry-eq2.true, lt-ltb c.args.port 2 c.requires.1) c.live.ensures
-
-pub is_root-requires : goal.is_root-requires
-unfolding waited_for
-is_root-requires c = search rules
 
 pub returns-then-is_root : goal.returns-then-is_root
 unfolding waited_for

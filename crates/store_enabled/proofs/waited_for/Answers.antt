@@ -9,10 +9,6 @@ pub returns-then-entry-ne-LEAVE_ENTRY : goal.returns-then-entry-ne-LEAVE_ENTRY
 unfolding waited_for
 returns-then-entry-ne-LEAVE_ENTRY c = rw (ne_eqb _ _ c.if-entry-ne-LEAVE_ENTRY.true)
 
-pub is_root-requires : goal.is_root-requires
-unfolding waited_for
-is_root-requires c = search rules
-
 pub returns-then-is_root : goal.returns-then-is_root
 unfolding waited_for
 returns-then-is_root c = rw (eq-eqb _ _ c.if-entry-ne-LEAVE_ENTRY.false, sym c.is_root.ensures ∙ c.if-is_root.true)
