@@ -48,7 +48,7 @@ fn check_lent(graph: &[u8], bound: usize, ledger: usize, cells: usize) -> Result
 }
 
 // The number of enabled activities that a bound does not hold back.
-// A ledger is lent by the caller, as bytes: `used` of its records are tokens.
+// The caller lends the ledger's bytes (the C interface), so the number of its tokens goes beside them.
 fn count_free(
     graph: &[u8],
     tables: &Tables,
@@ -63,7 +63,7 @@ fn count_free(
         (state_held (tokens used ledger.now) cs)) }
 {
     let mut holds = Holds::new();
-    // No activity fired: all records are new, and the place is none.
+    // No activity fired: all records are new, and any place will do.
     holds.follow(graph, tables, flags, ledger, 0, used, 0, bound);
     Free::new(flags, &holds.held).count()
 }
@@ -100,6 +100,7 @@ fn count_taken(
 
 // Of a saved state, the first tokens of the ledger, the cells and the two counts of the answer that came with them: how many
 // activities are enabled, and how many of these the bound holds back. After a hang all that are enabled are held back.
+// The bound is 0 for none, as in C.
 pub fn count(
     graph: &[u8],
     bound: u16,

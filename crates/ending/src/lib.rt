@@ -28,7 +28,7 @@ fn proper(tables: &Tables, t: Token) -> bool
     }
 }
 
-// Whether the token of record i of a ledger is spent.
+// Whether the token of record i of a ledger is spent, by its state alone: decoding the token would read all of it.
 fn spent_at(ledger: &[u8], i: usize) -> bool
     requires { i < length ledger.now / token_width }
     ensures { result ≡ state_spent ledger.now i }
@@ -54,8 +54,8 @@ fn four_spent(ledger: &[u8], i: usize) -> bool
             && (spent_at(ledger, i - 2) && (spent_at(ledger, i - 3) && spent_at(ledger, i - 4))))
 }
 
-// A ledger is lent by the caller, as bytes: `used` of its records are tokens.
 // 02, R-2: with nothing enabled, a run is completed only if every live token is a result and none is deferred.
+// The caller lends the ledger's bytes (the C interface), so the number of its tokens goes beside them.
 pub fn ending(tables: &Tables, ledger: &[u8], used: usize) -> Outcome
     requires { used ≤ length ledger.now / token_width }
     ensures { EndsWith result tables.now (tokens used ledger.now) }

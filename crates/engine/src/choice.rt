@@ -37,7 +37,8 @@ fn number_of(pick: usize, e: usize) -> usize
     if pick < e { pick } else { pick % e }
 }
 
-// The first of the enabled activities.
+// The first of the enabled activities. `Flagged` speaks of the ledger's bytes, which are the caller's, and so is no invariant of the
+// flags; for the same reason the number of the ledger's tokens goes beside it.
 fn oldest(tables: &Tables, flags: &Flags, ledger: &[u8], used: usize) -> Result<usize, Outcome>
     requires { Flagged tables.now flags.now ledger.now used }
     ensures { (flags held : List ℕ) → ChosenAs result Oldest [] 0 tables.now flags held ledger.now used }
@@ -173,7 +174,8 @@ fn by_free(
 }
 
 // The choice of a turn: the place of an enabled activity, unless the run is at its end. An order that holds nothing back asks for no
-// flags of held ones. A closure in the place of an order would be no plainer: loop and laws ask of it whether it holds back.
+// flags of held ones. A closure in place of the order would be no plainer:
+// the loop and the laws ask the order whether it holds anything back.
 pub fn choose(
     order: Order,
     source: &[u8],
@@ -214,7 +216,7 @@ fn order_of(picks: &[u8]) -> Order
     }
 }
 
-// The order of a run by picks, with a bound or, where it is 0, without one: so `run` takes it, and C. Behind this the order says it.
+// The order of a run by picks. A bound of 0 is none, as C lends it; from here on the order says whether there is one.
 pub fn order_under(picks: &[u8], bound: usize) -> Order
     ensures { ByBound result picks.now bound }
 {

@@ -27,7 +27,7 @@ use rules::answer;
 use rules::answer::{Answer, Fault, Refusal};
 use store_enabled::Store;
 
-// A run that passed every check.
+// A run that passed every check. The parameters of a run are those of the C interface, in its order, down to where its arrays are made.
 fn accepted(
     graph: &[u8],
     arrays: &[u8],
@@ -80,6 +80,7 @@ fn check_lent(
 }
 
 // 02, R-13: a saved state is taken, and the run goes on from it; or it is refused by 24.
+// The caller lends the ledger's bytes, so the number of its tokens goes beside them.
 fn resume(
     graph: &[u8],
     arrays: &[u8],
@@ -127,7 +128,7 @@ pub fn check_graph(graph: &[u8]) -> Result<(), Fault>
     graph::check(graph)
 }
 
-// A run over lent bytes: its answer, and what it leaves in ledger and cells, are what the rules give. The bound is 0 for none.
+// A run over lent bytes: its answer, and what it leaves in ledger and cells, are what the rules give. The bound is 0 for none, as in C.
 pub fn run(
     graph: &[u8],
     arrays: &[u8],
@@ -172,7 +173,8 @@ pub fn run(
     }
 }
 
-// The same run, which also writes a log: the first records of it, one for each firing.
+// The same run, which also writes a log: the first records of it, one for each firing. `run` is no call of it with an empty log, which
+// refusal 7 would meet.
 pub fn run_logged(
     graph: &[u8],
     arrays: &[u8],

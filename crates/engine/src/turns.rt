@@ -30,14 +30,15 @@ pub struct Fired {
     pub used: usize,
 }
 
-// Where a run resumes: tokens in the ledger, firings left.
+// Where a run resumes: tokens in the ledger, firings left. The caller lends the ledger's bytes, so the number of its tokens goes beside them.
 #[derive(Clone, Copy)]
 pub struct Going {
     pub used: usize,
     pub budget: usize,
 }
 
-// The activity that is chosen fires, unless the run is at its end. No other function fires one.
+// The activity that is chosen fires, unless the run is at its end. No other function of its archive
+// fires one, so that `fire` is no call (docs/DECISIONS.md, 205).
 fn take_turn<O: Operate>(
     graph: &[u8],
     tables: &Tables,
@@ -112,7 +113,7 @@ pub fn follow(
     ensures { Holding (graph_of graph.now) bound tables.now flags.now ledger.now n holds.new.nexts holds.new.held holds.new.marks }
 {
     if !holds.calm(graph, tables, flags, ledger, used, n, bound) {
-        // Parts that are the whole: the slices as they are would be stored in every turn.
+        // Lent as parts, which are the whole: lent as they are, the slices were stored in every turn (docs/PERFORMANCE.md).
         holds.follow(
             &graph[0..],
             tables,

@@ -120,7 +120,8 @@ impl Operate for Plain {
 }
 
 // The enabled activity whose place this is fires, or is refused with ledger and cells as they were. Gives the
-// number of tokens in the ledger after it.
+// number of tokens in the ledger after it. `Prepared` and `Running` are no invariants of a type: they speak of graph, ledger and cells,
+// whose bytes are the caller's; so the number of the ledger's tokens goes beside it.
 pub fn fire<O: Operate>(
     graph: &[u8],
     tables: &Tables,

@@ -138,8 +138,9 @@ fn later(at: usize, skip: usize) -> usize
     skip.max(at + 1)
 }
 
-// The first record from `from` on that a completed run does not leave, or `used`.
-// A ledger is lent by the caller, as bytes: `used` of its records are tokens.
+// The first record from `from` on that a completed run does not leave, or `used`. No Option: the next search goes on from here, be it
+// a record or the end.
+// The caller lends the ledger's bytes (the C interface), so the number of its tokens goes beside them.
 fn next_pending(tables: &Tables, ledger: &[u8], used: usize, marks: &Marks, from: usize) -> usize
     requires { (used ≤ length ledger.now / token_width) × (used ≤ 2048) × (from ≤ used) × Skips tables.now ledger.now used marks.now }
     ensures { PendingFrom tables.now ledger.now used from result }
@@ -197,7 +198,8 @@ fn first_holder(
 
 // ---- activities
 
-// Whether the activity at the place of record i is enabled and held back.
+// Whether the activity at the place of record i is enabled and held back. That the tables are the graph's is said in the clauses: the
+// graph's bytes are the caller's.
 fn holds_now(
     graph: &[u8],
     tables: &Tables,
@@ -412,7 +414,7 @@ impl Holds {
     }
 
     // After a firing of the activity at a place, which left n tokens where there were `used`: the flags of the held activities are right
-    // again. Before the first firing all n are new, and the place is none.
+    // again. Before the first firing all n are new, and any place will do: only a spent record is dropped.
     pub fn follow(
         &mut self,
         graph: &[u8],

@@ -1,5 +1,6 @@
 // A range run (02, R-11): the inputs become handles into a table of ranges, the engine's choices are fired over handles, and what is left is written as
-// ranges.
+// ranges. It shares the checks (`checks::check_lent`) and the loop (`engine::turns::from_inputs`) with a plain run. Its own: records of
+// other widths, and a ledger of handles.
 #![tactic(auto)]
 
 ghost use Rattle.std.specs.Prelude.{◌/◌, ◌+◌, ◌≤◌, ◌<◌, ◌≡◌, length};
@@ -21,6 +22,7 @@ use rules::answer;
 use rules::answer::{Answer, Fault, Refusal};
 
 // From the inputs as handles, in a ledger and cells of its own: the engine's loop, by the operation over ranges. It writes no log.
+// Down to here the parameters are those of the C interface, in its order, and what was made of them.
 fn over_handles(
     graph: &[u8],
     arrays: &[u8],
@@ -219,7 +221,7 @@ fn check_lent(
     checks::check_lent(graph, arrays, &lent, cells / range_output::CELL_WIDTH)
 }
 
-// A range run over lent bytes: its answer, and what it leaves in ledger and cells, are what the rules give. The bound is 0 for none.
+// A range run over lent bytes: its answer, and what it leaves in ledger and cells, are what the rules give. The bound is 0 for none, as in C.
 pub fn run_ranges(
     graph: &[u8],
     arrays: &[u8],

@@ -75,7 +75,8 @@ fn content_allowed(tables: &Tables, count: usize, t: Token) -> bool
     }
 }
 
-// Whether the port of a token is one of its instruction's. Where operands are waited for, the tables have their number.
+// Whether the port of a token is one of its instruction's. Where operands are waited for, the tables have their number. That
+// they are the graph's is said in the clauses: the graph's bytes are the caller's.
 fn port_allowed(graph: &[u8], tables: &Tables, t: Token) -> bool
     requires { Arities (graph_of graph.now) tables.now }
     ensures { result ≡ ltb t.port (operands_at (graph_of graph.now) t.tag.instruction) }
@@ -132,7 +133,7 @@ fn is_spent(content: Content) -> bool
     matches!(content, Content::Spent(_))
 }
 
-// A ledger is lent by the caller, as bytes: `used` of its records are tokens.
+// The caller lends the ledger's bytes (the C interface), so the number of its tokens goes beside them.
 fn spent_found(ledger: &[u8], used: usize, f: Option<usize>) -> bool
     requires { FoundWithin f used × (used ≤ length ledger.now / token_width) }
     ensures { result ≡ spent_found (token_at ledger.now) f }
