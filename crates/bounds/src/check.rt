@@ -10,12 +10,16 @@ use checks::stores::Stores;
 use record::codec::Decode;
 use record::instruction;
 use record::instruction::Instruction;
+use record::operation::Operation;
 use rules::answer::{Fault, Refusal};
 
 fn is_loop_free(r: Instruction) -> bool
     ensures { result ≡ loop_free r }
 {
-    r.code < 7 || 9 < r.code
+    !matches!(
+        Operation::from(r.code),
+        Operation::Next | Operation::Enter | Operation::Leave
+    )
 }
 
 // 19: the first NEXT, ENTER or LEAVE.

@@ -8,6 +8,7 @@ ghost use Rattle.bounds.specs.Reach.{sum_over};
 use record::codec::Decode;
 use record::instruction;
 use record::instruction::Instruction;
+use record::operation::Operation;
 
 // The firings and the outputs of all reached instructions.
 #[derive(Clone, Copy)]
@@ -20,7 +21,10 @@ pub struct Totals {
 fn firings_of(r: Instruction) -> usize
     ensures { (result ≡ firings_needed r) × (result ≤ 1) }
 {
-    if r.code == 3 { 0 } else { 1 }
+    match Operation::from(r.code) {
+        Operation::Out => 0,
+        _ => 1,
+    }
 }
 
 // A SWITCH has one output, whichever side it takes.
@@ -28,13 +32,10 @@ fn firings_of(r: Instruction) -> usize
 fn outputs_of(r: Instruction) -> usize
     ensures { (result ≡ outputs_needed r) × (result ≤ 2) }
 {
-    if r.code == 5 {
-        return 1;
+    match Operation::from(r.code) {
+        Operation::Switch => 1,
+        _ => r.fanout.min(2) as usize,
     }
-    if 2 <= r.fanout {
-        return 2;
-    }
-    r.fanout as usize
 }
 
 pub fn total(graph: &[u8], reached: &[bool; 256]) -> Totals
