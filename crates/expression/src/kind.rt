@@ -3,7 +3,7 @@ ghost use Rattle.std.specs.Prelude.{◌≡◌};
 ghost use Rattle.rules.specs.Expression.{is_variable};
 ghost use Rattle.expression.specs.Tables.{OperationOf};
 
-use record::operation::Arithmetic;
+use record::operation::{Arithmetic, Operation};
 use record::term::Term;
 
 pub fn is_variable(t: Term) -> bool
@@ -16,15 +16,8 @@ pub fn is_variable(t: Term) -> bool
 pub fn operation_of(t: Term) -> Option<Arithmetic>
     ensures { OperationOf t result }
 {
-    match t.kind {
-        16 => Some(Arithmetic::Add),
-        17 => Some(Arithmetic::Sub),
-        18 => Some(Arithmetic::Mul),
-        19 => Some(Arithmetic::Div),
-        20 => Some(Arithmetic::Rem),
-        21 => Some(Arithmetic::Lt),
-        22 => Some(Arithmetic::Le),
-        23 => Some(Arithmetic::Eq),
+    match Operation::from(t.kind) {
+        Operation::OnTwo(op) => Some(op),
         _ => None,
     }
 }

@@ -1,49 +1,58 @@
--- `expression::kind::operation_of` meets its contract: an arm's code computes to its operation, and the last arm's is below 16 or past 23. Assumes nothing.
-use Prim.Native.Nat.{ℕ, suc, ◌≤◌, ◌<◌}
-use mathlib.Core.Path.{◌≡◌}
-use mathlib.Core.Bool.{false, ◌&&◌}
-use native.Mathlib.Decide.{dec_le}
+-- `expression::kind::operation_of` meets its contract: the kinds 16 to 23 are the codes of the operations on two operands. Assumes nothing.
+use Prim.Native.Nat.{ℕ, zero, suc, ◌+◌, ◌-◌, ◌≤◌, ◌<◌}
 use native.Mathlib.Omega.{arith}
-use lib.Dec.{leb}
-use borrow.Author.Tests.{le-leb, lt-leb}
+use mathlib.Core.Path.{◌≡◌, refl, sym, ap, ◌∙◌}
+use mathlib.Core.Bool.{Bool, true, false, ◌&&◌}
+use mathlib.Core.List.{[], ◌∷◌}
+use lib.Dec.{T, leb}
+use denote.Enum.Declared.{tag_of}
+use borrow.Enum.Refused.{opened}
+use borrow.Author.Tests.{leb-true}
+use Rattle.record.specs.declared.operation.Arithmetic.{Arithmetic}
+use Rattle.record.specs.declared.operation.Arithmetic.TheVariants.{Add}
+use Rattle.record.specs.declared.operation.Operation.{Operation}
+use Rattle.record.specs.declared.operation.Operation.TheVariants.{OnTwo}
+use Rattle.record.specs.GraphRecords.{operation_of, row_of}
+use Rattle.record.specs.contracts.operation.Operation.{the_type}
+use Rattle.rules.specs.Expression.{arithmetic_of}
+use Rattle.check_fields.proofs.Turns.{and_left, and_right}
+use Rattle.check_fields.proofs.Operations.{on_two_among}
 use Rattle.expression.proofs.kind.operation_of.Goals as goal
 
-other : (n : ℕ) → (16 ≤ n → 23 < n) → (leb 16 n && leb n 23) ≡ false
-other n h = go (dec_le 16 n)
-  where
-    go : Dec (16 ≤ n) → (leb 16 n && leb n 23) ≡ false
-    go (yes l) = rw (le-leb 16 n l, lt-leb n 23 (h l))
-    go (no l) = rw (lt-leb 16 n (omega arith))
+told : (b : Bool) → T b → b ≡ true
+told true t = refl
+told false t = absurd t
 
-up : (m n : ℕ) → m ≤ n → (n ≡ m → ⊥) → suc m ≤ n
-up m n l h = omega arith
+abbrev second : Operation → Arithmetic
+second (OnTwo o) = o
+second o = Add
 
-pub returns-in-16 : goal.returns-in-16
-returns-in-16 c = let e = c.in-16.is in (rw e, rw e, rw e)
+eight : (m : ℕ) → m < 8 → second (operation_of (16 + m)) ≡ arithmetic_of (16 + m)
+unfolding row_of
+eight zero h = refl
+eight (suc zero) h = refl
+eight (suc (suc zero)) h = refl
+eight (suc (suc (suc zero))) h = refl
+eight (suc (suc (suc (suc zero)))) h = refl
+eight (suc (suc (suc (suc (suc zero))))) h = refl
+eight (suc (suc (suc (suc (suc (suc zero)))))) h = refl
+eight (suc (suc (suc (suc (suc (suc (suc zero))))))) h = refl
+eight (suc (suc (suc (suc (suc (suc (suc (suc m)))))))) h = absurd (omega arith)
 
-pub returns-in-17 : goal.returns-in-17
-returns-in-17 c = let e = c.in-17.is in (rw e, rw e, rw e)
+from_16 : (n : ℕ) → 16 ≤ n → n ≤ 23 → second (operation_of n) ≡ arithmetic_of n
+from_16 n h k =
+    let e : 16 + (n - 16) ≡ n = omega arith in
+    rw e at (eight (n - 16) (omega arith))
 
-pub returns-in-18 : goal.returns-in-18
-returns-in-18 c = let e = c.in-18.is in (rw e, rw e, rw e)
-
-pub returns-in-19 : goal.returns-in-19
-returns-in-19 c = let e = c.in-19.is in (rw e, rw e, rw e)
-
-pub returns-in-20 : goal.returns-in-20
-returns-in-20 c = let e = c.in-20.is in (rw e, rw e, rw e)
-
-pub returns-in-21 : goal.returns-in-21
-returns-in-21 c = let e = c.in-21.is in (rw e, rw e, rw e)
-
-pub returns-in-22 : goal.returns-in-22
-returns-in-22 c = let e = c.in-22.is in (rw e, rw e, rw e)
-
-pub returns-in-23 : goal.returns-in-23
-returns-in-23 c = let e = c.in-23.is in (rw e, rw e, rw e)
+pub returns-in-OnTwo : goal.returns-in-OnTwo
+returns-in-OnTwo c =
+    let n = c.args.t.kind in
+    let named = sym c.from.ensures ∙ c.in-OnTwo.is in
+    let t : T (leb 16 n && leb n 23) = rw (← on_two_among n true (11 ∷ []) (ap (tag_of the_type) named) tt) tt in
+    let low = told (leb 16 n) (and_left (leb 16 n) (leb n 23) t) in
+    let high = told (leb n 23) (and_right (leb 16 n) (leb n 23) t) in
+    (low, high, sym (ap second named) ∙ from_16 n (leb-true 16 n low) (leb-true n 23 high))
 
 pub returns-in_default : goal.returns-in_default
 returns-in_default c =
-    let n = c.args.t.kind in
-    let r = c.in_default.in_default-own.rest in
-    other n (λ l. up 23 n (up 22 n (up 21 n (up 20 n (up 19 n (up 18 n (up 17 n (up 16 n l r.0.0.0.0.0.0.0.1) r.0.0.0.0.0.0.1) r.0.0.0.0.0.1) r.0.0.0.0.1) r.0.0.0.1) r.0.0.1) r.0.1) r.1)
+    sym (on_two_among c.args.t.kind false (0 ∷ 1 ∷ 2 ∷ 3 ∷ 4 ∷ 5 ∷ 6 ∷ 7 ∷ 8 ∷ 9 ∷ 10 ∷ 12 ∷ 13 ∷ []) (rw c.from.ensures at (opened c.in_default.in_default-own.keys2)) tt)
