@@ -7,7 +7,7 @@ ghost use Rattle.arithmetic.specs.Ranges as Ranges;
 
 use record::operation::Arithmetic;
 
-// The smaller and the larger of two: the library's, told by the rules' own words.
+// The library's min and max; the clauses say them as the definitions `smaller` and `larger` do, which go by `le_z`, where the library's go by `lt_z`.
 pub fn smaller(x: i64, y: i64) -> i64
     ensures { result ≡ Ranges.smaller x y }
 {

@@ -1,9 +1,9 @@
 -- Laws of decimal numbers, of any size: the digits of n are those of n / 10 and the digit n % 10; a number below 10 ^ k has k of them at most; and a number
 -- in two parts has the digits of both. Assumes nothing.
-use Prim.Native.Nat.{ℕ, zero, suc, ◌+◌, ◌-◌, ◌*◌, ◌/◌, ◌%◌, ◌^◌, ◌≤◌, ◌<◌}
+use Prim.Native.Nat.{ℕ, zero, suc, ◌+◌, ◌*◌, ◌/◌, ◌%◌, ◌^◌, ◌≤◌, ◌<◌}
 use native.Mathlib.Omega.{arith}
 use native.Mathlib.Nat.{pow-suc, mul_assoc, mul_comm, mul-pos}
-use mathlib.Core.Path.{◌≡◌, refl, sym, ap, ◌∙◌}
+use mathlib.Core.Path.{◌≡◌, refl, ap, ◌∙◌}
 use mathlib.Core.Bool.{Bool, true, false}
 use mathlib.Core.List.{[], ◌∷◌, ◌++◌, append-nil, append_assoc}
 use borrow.Author.Tests.{ltb-true, ltb-false, lt-ltb, le-ltb}
@@ -11,9 +11,6 @@ use lib.Dec.{ltb}
 use lib.ListN.{length, length-append}
 use lib.IntN.{ℤ, pos, negsuc, nat_abs}
 use lib.Signed.{lt_z}
-use mir.Syntax.{w32}
-use mir.Val.{SFits}
-use Rattle.number.specs.Number.{bits_of}
 use Rattle.text.specs.Text.{digit, digits_by, decimal, signed_decimal}
 use Rattle.text.specs.Lines.{last_digits}
 
@@ -117,18 +114,8 @@ has_digits (suc k) n h l =
 pub short : (n : ℕ) → n < 2 ^ 64 → length (decimal n) ≤ 20
 short n h = at_most 19 n (omega arith)
 
--- ---- signed numbers, by their bits
+-- ---- a number below 0: a minus and its size
 
 pub signed_minus : (z : ℤ) → lt_z z (pos 0) ≡ true → signed_decimal z ≡ 45 ∷ decimal (nat_abs z)
 signed_minus (pos n) e = absurd (omega (arith, ltb-true n 0 e))
 signed_minus (negsuc n) e = refl
-
-pub signed_up : (z : ℤ) (b : ℕ) → SFits w32 z → b ≡ bits_of z → b < 2147483648 → signed_decimal z ≡ decimal b
-unfolding bits_of
-signed_up (pos n) b f e h = ap decimal (sym e)
-signed_up (negsuc n) b f e h = absurd (omega (arith, f.sfits))
-
-pub signed_down : (z : ℤ) (b : ℕ) → SFits w32 z → b ≡ bits_of z → 2147483648 ≤ b → signed_decimal z ≡ 45 ∷ decimal (4294967296 - b)
-unfolding bits_of
-signed_down (pos n) b f e h = absurd (omega (arith, f.sfits))
-signed_down (negsuc n) b f e h = let g : suc n ≡ 4294967296 - b = omega (arith, f.sfits) in rw g

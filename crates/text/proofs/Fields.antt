@@ -1,22 +1,18 @@
--- Lemmas on the fields of a token's line: digits of the table, a signed number by its bits, the word of a state; on lines put from any place on; and on cells that have none. Assumes nothing.
-use Prim.Native.Nat.{ℕ, zero, suc, ◌+◌, ◌-◌, ◌*◌, ◌/◌, ◌%◌, ◌≤◌, ◌<◌}
+-- Lemmas on the fields of a token's line: digits of the table, the word of a state; on lines put from any place on; and on cells that have none. Assumes nothing.
+use Prim.Native.Nat.{ℕ, zero, suc, ◌+◌, ◌*◌, ◌/◌, ◌%◌, ◌≤◌, ◌<◌}
 use native.Mathlib.Omega.{arith}
 use native.Mathlib.Nat.{zero-add}
 use mathlib.Core.Path.{◌≡◌, refl, sym, ap, ◌∙◌}
 use mathlib.Core.Bool.{Bool, true, false}
-use mathlib.Core.List.{List, [], ◌∷◌, ◌++◌, append-nil}
+use mathlib.Core.List.{List, [], ◌++◌, append-nil}
 use lib.Dec.{T, eqb, ltb, eqb→eq}
 use lib.Bits.{bit_or, or_comm, or_add_and, and_le_r}
 use lib.ListN.{length, get_or, drop, length-map}
 use lib.Seq.{get_or-drop}
 use borrow.Author.Tests.{eq-eqb, ne_eqb, lt-ltb, le-ltb, ltb-true, ltb-false}
-use mir.Syntax.{w32}
-use mir.Facts.{sfits_to_z}
-use mir.Val.{SFits}
 use Rattle.number.specs.Number.{signed_of}
 use Rattle.number.specs.Number as Number
 use Rattle.std.specs.Int.{byte_at}
-use Rattle.number.proofs.Numbers.{bits_signed}
 use Rattle.buffer.specs.Rows.{rows}
 use Rattle.buffer.proofs.Tables.{length_rows, get_d_rows}
 use Rattle.record.specs.TokensAndTags as Tokens
@@ -28,9 +24,9 @@ use Rattle.record.specs.declared.cell.Cell.TheVariants.{Absent}
 use Rattle.record.specs.Widths.{token_width, cell_width}
 use Rattle.record.proofs.Computed.{every, at}
 use Rattle.text.specs.Words.{bytes}
-use Rattle.text.specs.Text.{digit, decimal, signed_decimal, state_word, token_line, cell_line}
+use Rattle.text.specs.Text.{digit, decimal, state_word, token_line, cell_line}
 use Rattle.text.specs.Lines.{RoomForText, AddedText, packed_digits, Table, text_of_lines, token_lines, lines_of_cells, AbsentFrom}
-use Rattle.text.proofs.Decimals.{decimal_digit, length_more, signed_up, signed_down}
+use Rattle.text.proofs.Decimals.{decimal_digit, length_more}
 use Rattle.text.proofs.Lines.{both}
 use Rattle.text.proofs.Whole.{map_rows, length_cells, cell_line_lem, made, made_next, made_longer, made_within}
 
@@ -64,18 +60,6 @@ long2 n h = omega (arith, length_more n h, long1 (n / 10))
 
 pub long3 : (n : ℕ) → 100 ≤ n → 3 ≤ length (decimal n)
 long3 n h = omega (arith, length_more n (omega arith), long2 (n / 10) (omega arith))
-
--- ---- a signed number by its bits
-
-signed_fits : (b : ℕ) → b < 4294967296 → SFits w32 (signed_of b)
-unfolding signed_of
-signed_fits b h = sfits_to_z (record { fits = h })
-
-pub bits_up : (b : ℕ) → b < 2147483648 → signed_decimal (signed_of b) ≡ decimal b
-bits_up b h = signed_up (signed_of b) b (signed_fits b (omega arith)) (sym (bits_signed b (omega arith))) h
-
-pub bits_down : (b : ℕ) → b < 4294967296 → 2147483648 ≤ b → signed_decimal (signed_of b) ≡ 45 ∷ decimal (4294967296 - b)
-bits_down b l h = signed_down (signed_of b) b (signed_fits b l) (sym (bits_signed b l)) h
 
 -- ---- the content of a state
 

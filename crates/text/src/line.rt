@@ -1,6 +1,7 @@
 // Printed lines, made in place: each function puts a text into a buffer from `at` on, answers where it
 // ends, and leaves every other byte as it was. It asks for room for just that text.
-// `out` and `at` stay two: as one struct they made printing 2 to 5 % slower passed by value, and a fifth slower lent.
+// `out` and `at` stay two: as one struct they made printing 2 to 5 % slower passed by value, and a fifth slower lent, as `write!`
+// would have it lent.
 ghost use Rattle.std.specs.Prelude.{◌≡◌, ◌<◌, ◌≤◌, ◌+◌, ◌*◌, ◌/◌, ◌%◌, [], ◌∷◌, ◌++◌, length, take, drop};
 ghost use Rattle.buffer.specs.Rows.{written};
 ghost use Rattle.number.specs.Number.{signed_of};
@@ -41,6 +42,7 @@ fn put_last_digits(out: &mut [u8], at: usize, k: usize, n: u64) -> usize
     ensures { AddedText out.old out.new at result (last_digits k n) }
 {
     let mut rest = n;
+    // By number: the digits are put from the last one back.
     for left in (0..k).rev() {
         out[at + left] = 48 + (rest % 10) as u8;
         rest /= 10;
@@ -214,11 +216,13 @@ fn put_bits(out: &mut [u8], at: usize, small: &Small, bits: u32) -> usize
     requires { RoomForText out.old at (signed_decimal (signed_of bits) ++ 32 ∷ []) }
     ensures { AddedText out.old out.new at result (signed_decimal (signed_of bits) ++ 32 ∷ []) }
 {
-    if bits < 2147483648 {
-        put_field(out, at, small, bits as u64)
-    } else {
+    let value = number::signed(bits);
+    let magnitude = u64::from(value.unsigned_abs());
+    if value < 0 {
         let k = put_byte(out, at, b'-');
-        put_field(out, k, small, 4294967296 - bits as u64)
+        put_field(out, k, small, magnitude)
+    } else {
+        put_field(out, at, small, magnitude)
     }
 }
 
