@@ -103,7 +103,8 @@ fn cell_bytes(table: &RangeTable, cell: Cell) -> [u8; CELL_WIDTH]
     }
 }
 
-// The first cells of a store over handles. A loop of its own: a trait for tokens and cells would be longer than it.
+// The first cells of a store over handles: the promise is of any first n of them, so n goes beside the store. A loop of its own: a trait for
+// tokens and cells would be longer than it.
 pub fn put_cells(table: &RangeTable, store: &[u8], n: usize, out: &mut [u8])
     requires { (n ≤ length store.now / cell_width) × (n ≤ length out.old / range_cell_width) }
     ensures { out.new ≡ written_over encode_range_cell (cells_meant table.now (cells n store.now)) out.old }
