@@ -65,9 +65,7 @@ fn switch(control: i32, tag: Tag, r: Instruction) -> Result<Outputs, Refusal>
 fn next(tag: Tag, r: Instruction) -> Result<Outputs, Refusal>
     ensures { Makes result (send_next (next_of tag) r) }
 {
-    let Some(later) = tag.next() else {
-        return Err(Refusal::Iteration);
-    };
+    let later = tag.next().ok_or(Refusal::Iteration)?;
     to_all(later, r)
 }
 
@@ -78,9 +76,7 @@ fn enter(tag: Tag, r: Instruction) -> Result<Outputs, Refusal>
     ensures { Makes result (send_entered (enter_of tag (nat_abs r.constant)) r) }
 {
     let body = r.first;
-    let Some(inner) = tag.enter(byte(r.constant)) else {
-        return Err(Refusal::TooDeep);
-    };
+    let inner = tag.enter(byte(r.constant)).ok_or(Refusal::TooDeep)?;
     to_one(inner, body)
 }
 

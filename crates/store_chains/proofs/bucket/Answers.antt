@@ -1,6 +1,5 @@
 -- `store_chains::bucket` meets its contract. Assumes nothing.
 use native.Mathlib.Omega.{arith}
-use borrow.Author.Rules.{rules}
 use Rattle.store_chains.specs.Chains.{bucket_of}
 use Rattle.store_chains.proofs.bucket.Goals as goal
 

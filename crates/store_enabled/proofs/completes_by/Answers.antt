@@ -1,6 +1,5 @@
 -- `store_enabled::completes_by` meets its contract. Assumes nothing.
 use mathlib.Core.Path.{sym, ◌∙◌}
-use borrow.Author.Rules.{rules}
 use borrow.Author.Tests.{ne_eqb, lt-ltb}
 use lib.Dec.{ltb}
 use Rattle.store_enabled.specs.Enabled.{waited_for}

@@ -1,6 +1,5 @@
 -- `store_enabled::waited_for` meets its contract. Assumes nothing.
 use mathlib.Core.Path.{sym, ◌∙◌}
-use borrow.Author.Rules.{rules}
 use borrow.Author.Tests.{eq-eqb, ne_eqb}
 use Rattle.store_enabled.specs.Enabled.{waited_for}
 use Rattle.store_enabled.proofs.waited_for.Goals as goal

@@ -14,7 +14,6 @@ use Rattle.record.specs.contracts.operation.Operation.{the_type}
 use Rattle.fire_effect.specs.declared.operate.Action.TheVariants.{Send}
 use Rattle.fire_effect.specs.Effects.{operated_of}
 use borrow.Enum.Refused.{opened}
-use borrow.Author.Rules.{rules}
 use Rattle.fire_effect.proofs.operate.operate.Goals as goal
 
 -- the operations that none of the other arms names, by their numbers as variants: they give the value on port 0

@@ -16,7 +16,6 @@ use Rattle.machine.specs.Machine.{send}
 use Rattle.rules.specs.InstructionSet.{all_under}
 use Rattle.fire_effect.proofs.Does.{made_as}
 use Rattle.fire_effect.specs.Effects.{new_tags_of}
-use borrow.Author.Rules.{rules}
 use Rattle.fire_effect.proofs.tags.new_tags.Goals as goal
 
 -- the operations that none of the other arms names, by their numbers as variants: they send to each destination in use

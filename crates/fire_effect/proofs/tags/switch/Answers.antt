@@ -7,7 +7,6 @@ use lib.IntN.{pos}
 use Rattle.arithmetic.proofs.Signed.{same_bits}
 use Rattle.arithmetic.proofs.Ranged.{eq_eq_z, ne_eq_z}
 use Rattle.rules.specs.InstructionSet.{side_of}
-use borrow.Author.Rules.{rules}
 use Rattle.fire_effect.proofs.tags.switch.Goals as goal
 
 pub returns-then-control-eq0 : goal.returns-then-control-eq0
