@@ -46,14 +46,12 @@ impl Store {
 }
 
 // Whether what was found is live: the state of its record is 0.
+#[tactic(auto, using(crate::proofs::Places::live_state))]
 fn live(ledger: &[u8], f: Option<usize>) -> bool
     requires { FoundWithin f (length ledger.now / token_width) }
     ensures { result ≡ live_found (token_at ledger.now) f }
 {
-    match f {
-        Some(i) => ledger[i * token::WIDTH + token::STATE] == 0,
-        None => false,
-    }
+    f.is_some_and(|i| ledger[i * token::WIDTH + token::STATE] == 0)
 }
 
 // Whether all operands of an activity are live, where f and g stand on its ports. Operand counts are numbers, as they stand in the tables of
