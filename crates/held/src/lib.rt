@@ -25,7 +25,7 @@ use std::marker::Model;
 use store_enabled::Tables;
 use store_flags::Flags;
 
-// The code of NEXT.
+// The code of NEXT. A number: the definition `held_in` of the rules goes by the code.
 const NEXT: u8 = 7;
 
 // Whether a tag stands in a path, or in one entered from there, at an iteration of m - k or less: LEAVE finds one caller
