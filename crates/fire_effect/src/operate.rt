@@ -58,7 +58,7 @@ fn cell_in(first: u16, length: u16, index: i32, cells: usize) -> Option<u32>
 fn entry(tables: &[u16], i: usize) -> u16
     ensures { result ≡ get_or tables.now i 0 }
 {
-    if i < tables.len() { tables[i] } else { 0 }
+    *tables.get(i).unwrap_or(&0)
 }
 
 // Array n of those tables, counted from 0: past the last stands one of no cells.
