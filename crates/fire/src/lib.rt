@@ -136,7 +136,7 @@ pub fn fire<O: Operate>(
         × Running (graph_of graph.now) tables.now store.old.links store.old.flags ledger.old cells.old used
         × (place < used)
         × (leads_in tables.now (tokens used ledger.old) place (token_at ledger.old place) ≡ true)
-        × O.fits by.old used }
+        × WithRoom (O.fits by.old) }
     ensures stepped { Stepped result (graph_of graph.now) (token_at ledger.old place).tag
         (asked_by (O.asks by.old) (graph_of graph.now) tables.now ledger.old cells.old used
         (token_at ledger.old place).tag) tables.now store.new.links store.new.flags ledger.new

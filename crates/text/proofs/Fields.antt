@@ -12,7 +12,6 @@ use lib.Seq.{get_or-drop}
 use borrow.Author.Tests.{eq-eqb, ne_eqb, lt-ltb, le-ltb, ltb-true, ltb-false}
 use Rattle.number.specs.Number.{signed_of}
 use Rattle.number.specs.Number as Number
-use Rattle.std.specs.Int.{byte_at}
 use Rattle.buffer.specs.Rows.{rows}
 use Rattle.buffer.proofs.Tables.{length_rows, get_d_rows}
 use Rattle.record.specs.TokensAndTags as Tokens
@@ -40,10 +39,10 @@ tabled t h e = record { entry = λ n l. eqb→eq (get_or t n 0) (packed_digits n
 
 -- the digits are its bytes
 module _ (n : ℕ) where
-  pub two : n < 100 → (byte_at 0 (packed_digits n) ≡ digit (n / 10)) × (byte_at 1 (packed_digits n) ≡ digit (n % 10))
+  pub two : n < 100 → (packed_digits n % 256 ≡ digit (n / 10)) × (packed_digits n / 256 % 256 ≡ digit (n % 10))
   two l = rw (lt-ltb n 100 l) (omega arith, omega arith)
 
-  pub three : 100 ≤ n → n < 1000 → (byte_at 0 (packed_digits n) ≡ digit (n / 100)) × (byte_at 1 (packed_digits n) ≡ digit (n / 10 % 10)) × (byte_at 2 (packed_digits n) ≡ digit (n % 10))
+  pub three : 100 ≤ n → n < 1000 → (packed_digits n % 256 ≡ digit (n / 100)) × (packed_digits n / 256 % 256 ≡ digit (n / 10 % 10)) × (packed_digits n / 65536 % 256 ≡ digit (n % 10))
   three l k = rw (le-ltb n 100 l) (omega arith, omega arith, omega arith)
 
 -- ---- how many digits there are at least

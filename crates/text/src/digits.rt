@@ -1,6 +1,5 @@
 // The decimal digits of the numbers below 1000: a table, and what reads it.
 ghost use Rattle.std.specs.Prelude.{◌≡◌, ◌<◌};
-ghost use Rattle.std.specs.Int.{w32, to_le_bytes};
 ghost use Rattle.text.specs.Lines.{packed_digits};
 
 use std::marker::Model;
@@ -132,11 +131,11 @@ impl Small {
         Small { entries: SMALL }
     }
 
-    // The bytes of an entry: n's digits, and zeros behind them.
-    pub fn bytes(&self, n: usize) -> [u8; 4]
+    // The digits of n, one to a byte.
+    pub fn entry(&self, n: usize) -> u32
         requires { n < 1000 }
-        ensures { result ≡ to_le_bytes w32 (packed_digits n) }
+        ensures { result ≡ packed_digits n }
     {
-        self.entries[n].to_le_bytes()
+        self.entries[n]
     }
 }

@@ -3,7 +3,7 @@ use mir.Syntax.{w32}
 use mir.Val.{SFits}
 use mir.Facts.{to_z-of_z}
 use borrow.Author.Rules.{rules}
-use Rattle.store.proofs.Laws.{matching_few, matching_known}
+use Rattle.store.proofs.Laws.{matching_known}
 use Rattle.fire_effect.proofs.Passed.{ready}
 use Rattle.fire_commit.proofs.Laws.{passed_on}
 use Rattle.fire.proofs.Place.{earliest_here}
@@ -23,8 +23,7 @@ read-r-requires g c =
     inside _ c.requires.0 c.requires.1 c.args.place c.requires.2 c.read-t.result c.read-t.ensures
 
 pub operate-requires : goal.operate-requires
-operate-requires g c =
-    record { used = c.args.used; few = matching_few c.requires.1.matching; there = c.requires.4 }
+operate-requires g c = c.requires.4
 
 pub returns-in_err-action : goal.returns-in_err-action
 returns-in_err-action g c =

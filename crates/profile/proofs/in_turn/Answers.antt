@@ -32,7 +32,7 @@ overflow_add-spent c =
 pub fire-fired-requires : goal.fire-fired-requires
 fire-fired-requires c =
     let n = next_here _ c.requires.0 c.requires.1 c.requires.2 c.loop-firings.invariant c.loop-firings-test.true in
-    (c.requires.0, c.loop-firings.invariant.under.running, n.standing.below, n.standing.leading, tt)
+    (c.requires.0, c.loop-firings.invariant.under.running, n.standing.below, n.standing.leading, record { used = 0; few = omega arith; there = tt })
 
 pub loop-firings-smaller : goal.loop-firings-smaller
 loop-firings-smaller c = omega (arith, c.loop-firings-test.true)

@@ -26,8 +26,8 @@ pub returns-then-n-lt100 : goal.returns-then-n-lt100
 returns-then-n-lt100 c =
     let n = c.args.n in
     let d = two n c.if-n-lt100.true in
-    let a = rw c.bytes.ensures at c.put_byte-second.ensures in
-    let b = rw c.bytes.ensures at c.put_byte-third.ensures in
+    let a = rw c.entry-w.ensures at c.put_byte-second.ensures in
+    let b = rw c.entry-w.ensures at c.put_byte-third.ensures in
     rw (two_digits n c.if-n-lt10.false c.if-n-lt100.true) (both (rw d.0 at a) (both (rw d.1 at b) c.put_byte-then-n-lt100.ensures))
 
 pub put_byte-fourth-requires : goal.put_byte-fourth-requires
@@ -44,7 +44,7 @@ pub returns : goal.returns
 returns c =
     let n = c.args.n in
     let d = three n c.if-n-lt100.false c.requires.0 in
-    let a = rw c.bytes.ensures at c.put_byte-second.ensures in
-    let b = rw c.bytes.ensures at c.put_byte-third.ensures in
-    let e = rw c.bytes.ensures at c.put_byte-fourth.ensures in
+    let a = rw c.entry-w.ensures at c.put_byte-second.ensures in
+    let b = rw c.entry-w.ensures at c.put_byte-third.ensures in
+    let e = rw c.entry-w.ensures at c.put_byte-fourth.ensures in
     rw (three_digits n c.if-n-lt100.false c.requires.0) (both (rw d.0 at a) (both (rw d.1 at b) (both (rw d.2 at e) c.put_byte-2.ensures)))
