@@ -24,11 +24,7 @@ use rules::answer::Answer;
 fn records_in(bytes: usize) -> usize
     ensures { result ≡ (bytes + (log_width - 1)) / log_width }
 {
-    if bytes % log::WIDTH == 0 {
-        bytes / log::WIDTH
-    } else {
-        bytes / log::WIDTH + 1
-    }
+    bytes.div_ceil(log::WIDTH)
 }
 
 // A replay that passed every check begins as a run does, and each record is a turn: a last one that is not whole is a record too.
