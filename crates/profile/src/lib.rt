@@ -156,44 +156,50 @@ fn put_places(flags: &Flags, count: usize, out: &mut [u16; 2048])
     }
 }
 
-// Writes the places of the enabled activities, in order, and answers how many there are. One alone is found at once.
-fn enabled_places(flags: &Flags, out: &mut [u16; 2048]) -> usize
-    requires { length out.old ≡ 2048 }
-    ensures { PlacesIn result flags.now out.new }
-{
-    let count = store::enabled_count(flags);
-    if count == 1 {
-        out[0] = store::enabled_at(flags, 0) as u16;
-        return count;
-    }
-    if count != 0 {
-        put_places(flags, count, out);
-    }
-    count
+// The activities that are due in a step, by their places: so many at the front of the array.
+#[derive(Drop)]
+struct Due {
+    places: [u16; 2048],
+    count: usize,
 }
 
-// The activities at the first places, which are all that are enabled, fire in turn.
+impl Due {
+    // Writes those of the enabled activities, in order. One alone is found at once.
+    fn fill(&mut self, flags: &Flags)
+        ensures { PlacesIn self.new.count flags.now self.new.places }
+    {
+        let count = store::enabled_count(flags);
+        self.count = count;
+        if count == 1 {
+            self.places[0] = store::enabled_at(flags, 0) as u16;
+        } else if count != 0 {
+            put_places(flags, count, &mut self.places);
+        }
+    }
+}
+
+// The activities that are due, which are all that are enabled, fire in turn. A ledger is lent by the caller, as bytes: `start` of its
+// records are tokens.
 fn in_turn(
     graph: &[u8],
     tables: &Tables,
     store: &mut Store,
     ledger: &mut [u8],
     cells: &mut [u8],
-    places: &[u16; 2048],
-    count: usize,
+    due: &Due,
     start: usize,
 ) -> Progress
     requires { Prepared graph.now tables.now
         × Running (graph_of graph.now) tables.now store.old.links store.old.flags ledger.old cells.old start
-        × PlacesIn count store.old.flags places.now
-        × (0 < count) }
+        × PlacesIn due.now.count store.old.flags due.now.places
+        × (0 < due.now.count) }
     ensures { FiredAs result.outcome (graph_of graph.now) tables.now store.new.links store.new.flags ledger.new
         cells.new result.firings result.tokens result.spent start ledger.old cells.old }
 {
     let mut used = start;
     let mut spent = 0;
-    for firings in 0..count {
-        let place = places[firings] as usize;
+    for firings in 0..due.count {
+        let place = due.places[firings] as usize;
         spent += operands_at(tables, ledger, place);
         let fired = fire::fire(graph, tables, &mut Plain, store, ledger, cells, used, place);
         match fired {
@@ -210,7 +216,7 @@ fn in_turn(
     }
     Progress {
         outcome: Outcome::Spent,
-        firings: count,
+        firings: due.count,
         tokens: used,
         spent,
     }
@@ -224,27 +230,25 @@ fn step(
     store: &mut Store,
     ledger: &mut [u8],
     cells: &mut [u8],
-    places: &mut [u16; 2048],
+    due: &mut Due,
     start: usize,
     live: usize,
 ) -> Result<Whole, Ended>
     requires { Prepared graph.now tables.now
         × Running (graph_of graph.now) tables.now store.old.links store.old.flags ledger.old cells.old start
-        × (live ≡ unspent_at (graph_of graph.now) tables.now ledger.old cells.old start)
-        × (length places.old ≡ 2048) }
-    ensures step_done { StepDone result (graph_of graph.now) tables.now store.new.links store.new.flags ledger.new
+        × (live ≡ unspent_at (graph_of graph.now) tables.now ledger.old cells.old start) }
+    ensures { StepDone result (graph_of graph.now) tables.now store.new.links store.new.flags ledger.new
         cells.new start ledger.old cells.old }
-    ensures places_len { length places.new ≡ 2048 }
 {
-    let count = enabled_places(&store.flags, places);
-    if count == 0 {
+    due.fill(&store.flags);
+    if due.count == 0 {
         return Err(Ended {
             outcome: ending::ending(tables, ledger, start),
             firings: 0,
             tokens: start,
         });
     }
-    let done = in_turn(graph, tables, store, ledger, cells, places, count, start);
+    let done = in_turn(graph, tables, store, ledger, cells, due, start);
     let outcome = done.outcome;
     let firings = done.firings;
     let tokens = done.tokens;
@@ -293,21 +297,15 @@ fn proceed(
         profile.new }
 {
     let room = profile.len() / WIDTH;
-    let mut places = [0u16; 2048];
+    let mut due = Due {
+        places: [0; 2048],
+        count: 0,
+    };
     let mut used = start;
     let mut unspent = start;
     let mut firings = 0;
     for records in 0..room {
-        let ended = step(
-            graph,
-            tables,
-            store,
-            ledger,
-            cells,
-            &mut places,
-            used,
-            unspent,
-        );
+        let ended = step(graph, tables, store, ledger, cells, &mut due, used, unspent);
         match ended {
             Ok(whole) => {
                 put_record(profile, records, whole.firings, whole.unspent);

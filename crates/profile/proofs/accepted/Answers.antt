@@ -1,5 +1,4 @@
 -- `profile::accepted` meets its contract: it begins as `start` says, proceeds, and what it leaves is said of the buffers as lent. Assumes nothing.
-use mathlib.Core.Path.{refl}
 use lib.ListN.{length}
 use Rattle.profile.proofs.Accepting.{accepted_by, all_live_lem, as_profile}
 use Rattle.profile.proofs.accepted.Goals as goal
