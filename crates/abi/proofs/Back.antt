@@ -16,7 +16,9 @@ use Rattle.rules.proofs.Counted.{all_counted}
 use Rattle.bounds.proofs.Small.{Small, needs_small}
 use Rattle.abi.specs.Numbers.{packed, unpacked, answer_needed}
 use Rattle.abi.specs.Back.{Recovered, NumbersBack}
-use Rattle.abi.proofs.Laws.{Fits, unpacked_packed, run_back, packed_unpacked}
+use Rattle.abi.proofs.Laws.{Fits, unpacked_packed}
+use Rattle.abi.proofs.Runs.{run_back}
+use Rattle.abi.proofs.Named.{packed_unpacked}
 
 recovered : (a : Answer) → CountsFit a → Recovered a
 recovered a h = unpacked_packed a (omega (arith, h.by_tokens, h.tokens), omega (arith, h.tokens), omega (arith, h.place))

@@ -1,5 +1,6 @@
 // What Rust and C link: the run, with and without a log, the replay, the bounds, the activities that a bound holds back,
 // expressions, the listing and the printed lines over numbers and byte slices, with the promises of the crates behind them.
+// C has no generic functions, so each kind of run has a name of its own (docs/LIBRARY.md).
 #![tactic(auto)]
 
 ghost use Rattle.std.specs.Prelude.{◌≡◌, length, suc};
@@ -17,7 +18,7 @@ ghost use Rattle.listing.specs.Listing.{listed_out};
 ghost use Rattle.listing.specs.Listing.{list_answer as Listing·answer};
 ghost use Rattle.abi.specs.Numbers.{packed, AsNumber, made_number, value_number, refusal_of, unplaced, outcome_numbered, unpacked, tally_number, limits_in, ServesNumber, print_answer, print_after};
 
-use plot_cache::{Ended, Limits};
+use plot_cache::{Ended, Limits, Request};
 use rules::answer;
 use rules::answer::{Answer, Outcome, Refusal};
 use text::TooSmall;
@@ -33,7 +34,8 @@ fn place_of(outcome: Outcome) -> usize
     }
 }
 
-// An answer in one number: its word, firings, tokens and place, 16 bits each.
+// An answer in one number: its word, firings, tokens and place, 16 bits each. No `From`: neither type is of this crate, and the number
+// is a matter of the C interface, not of `rules`.
 pub fn number_of(a: Answer) -> u64
     ensures { result ≡ packed (values_of a) }
 {
@@ -44,7 +46,7 @@ pub fn number_of(a: Answer) -> u64
         + ((place_of(outcome) % 65536) as u64) * 281474976710656
 }
 
-// The refusal with the papers' number.
+// The refusal with the papers' number: the way back from a number that C gives. No `TryFrom`, as above.
 #[tactic(auto, unfolding(crate::specs::Numbers::refusal_of))]
 fn refusal_of(word: u64) -> Option<Refusal>
     ensures { result ≡ refusal_of word }
@@ -308,25 +310,21 @@ pub fn ttda_serves(
         answer,
         held: kept_held as usize,
     };
-    let kept = limits_in(kept_limits);
-    let asked = limits_in(limits);
-    if plot_cache::serves(
-        kept_graph,
-        kept_arrays,
-        kept_inputs,
-        kept_picks,
-        kept,
-        end,
+    let kept = Request {
+        graph: kept_graph,
+        arrays: kept_arrays,
+        inputs: kept_inputs,
+        picks: kept_picks,
+        limits: limits_in(kept_limits),
+    };
+    let asked = Request {
         graph,
         arrays,
         inputs,
         picks,
-        asked,
-    ) {
-        1
-    } else {
-        0
-    }
+        limits: limits_in(limits),
+    };
+    u64::from(plot_cache::serves(&kept, end, &asked))
 }
 
 #[tactic(auto, unfolding(convert::specs::Convert::convert_answer))]

@@ -1,4 +1,5 @@
-// The functions of the crate abi under the names that C and Rust link, with the same promises.
+// The functions of the crate abi under the names that C and Rust link, with the same promises. C has no generic functions, so each kind of run
+// has a name of its own.
 #![tactic(auto)]
 
 ghost use Rattle.std.specs.Prelude.{◌≡◌, length, suc};

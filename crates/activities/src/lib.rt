@@ -13,9 +13,13 @@ ghost use Rattle.abstraction.specs.States.{state_held};
 ghost use Rattle.activities.specs.Counts.{count_lent_checked, counted, counts};
 ghost use Rattle.activities.specs.Ready.{LentToCount, ReadyToCount};
 
-use checks::{bound, graph, stores};
+use checks::bound::Bounded;
+use checks::graph;
+use checks::lent::Lent;
+use checks::stores::Stores;
+use held::Holds;
 use rules::answer::{Fault, Refusal};
-use store_enabled::Tables;
+use store_enabled::{Store, Tables};
 use store_flags::{Flags, Free};
 
 // What is found of a state: how many activities are enabled, and how many of these are held back.
@@ -30,10 +34,21 @@ fn check_lent(graph: &[u8], bound: usize, ledger: usize, cells: usize) -> Result
     ensures { result ≡ count_lent_checked graph.now bound ledger cells }
 {
     graph::check(graph)?;
-    bound::check(stores::check(0, 0, ledger, cells), bound)
+    let stores = Stores {
+        inputs: 0,
+        picks: 0,
+        ledger,
+        cells,
+    };
+    Bounded {
+        lent: stores,
+        bound,
+    }
+    .check()
 }
 
 // The number of enabled activities that a bound does not hold back.
+// The caller lends the ledger's bytes (the C interface), so the number of its tokens goes beside them.
 fn count_free(
     graph: &[u8],
     tables: &Tables,
@@ -47,14 +62,10 @@ fn count_free(
         (free_of (machine_of (graph_of graph.now) table capacity count) (held_in (graph_of graph.now) bound)
         (state_held (tokens used ledger.now) cs)) }
 {
-    let mut nexts = Flags::new();
-    let mut held = Flags::new();
-    let mut marks = [0u16; 4096];
-    // No activity fired: all records are new, and the place is none.
-    held::follow(
-        graph, tables, flags, ledger, 0, used, 0, bound, &mut nexts, &mut held, &mut marks,
-    );
-    Free::new(flags, &held).count()
+    let mut holds = Holds::new();
+    // No activity fired: all records are new, and any place will do.
+    holds.follow(graph, tables, flags, ledger, 0, used, 0, bound);
+    Free::new(flags, &holds.held).count()
 }
 
 // A state is taken and counted, or it is refused by 24.
@@ -71,19 +82,16 @@ fn count_taken(
 {
     let none = [0u8; 0];
     let mut tables = [0u16; store_enabled::TABLES_LENGTH];
-    let mut links = [0u16; store_chains::LENGTH];
-    let mut flags = Flags::new();
+    let mut store = Store::new();
     graph_tables::make(graph, &none, &mut tables);
-    if !saved::take(
-        graph, &tables, &mut links, &mut flags, ledger, cells, firings, used,
-    ) {
+    if !saved::take(graph, &tables, &mut store, ledger, cells, firings, used) {
         return Err(Refusal::DamagedState.at(0));
     }
-    let enabled = flags.count();
+    let enabled = store.flags.count();
     if bound == 0 {
         return Ok(Tally { enabled, held: 0 });
     }
-    let free = count_free(graph, &tables, &flags, ledger, used, bound);
+    let free = count_free(graph, &tables, &store.flags, ledger, used, bound);
     Ok(Tally {
         enabled,
         held: enabled - free,
@@ -92,6 +100,7 @@ fn count_taken(
 
 // Of a saved state, the first tokens of the ledger, the cells and the two counts of the answer that came with them: how many
 // activities are enabled, and how many of these the bound holds back. After a hang all that are enabled are held back.
+// The bound is 0 for none, as in C.
 pub fn count(
     graph: &[u8],
     bound: u16,

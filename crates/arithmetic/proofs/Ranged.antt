@@ -5,9 +5,10 @@ use Prim.Native.Nat.{ℕ, zero, suc, ◌<◌}
 use native.Mathlib.Omega.{arith}
 use lib.IntN.{ℤ, pos, negsuc, ◌+ℤ◌, ◌-ℤ◌, ◌*ℤ◌}
 use lib.Signed.{lt_z, le_z, quot_z, rem_z}
+use lib.Dec.{eqb}
 use borrow.Author.Tests.{le-ltb, ltb-false, eqb-true, eq-eqb, ne_eqb}
 use mir.Syntax.{w32}
-use mir.Val.{SFits, of_z}
+use mir.Val.{SFits, bool_byte, to_z, of_z}
 use mir.Facts.{sfits_lit}
 use Rattle.std.specs.Prelude.{Option, None, Some, Result, Ok, Err}
 use Rattle.std.specs.Option.{SomeIff}
@@ -124,3 +125,19 @@ value_fits Rem a b v e = divided_fits b (rem_z a b) v e
 value_fits Lt a b v e = truth_fits (lt_z a b) v e
 value_fits Le a b v e = truth_fits (le_z a b) v e
 value_fits Eq a b v e = truth_fits (eq_z a b) v e
+
+-- ---- comparisons
+
+-- two numbers of 32 bits are equal where their bits are
+pub eq_bits : {a b : ℤ} → SFits w32 a → SFits w32 b → eqb (of_z w32 a) (of_z w32 b) ≡ eq_z a b
+eq_bits {a} {b} fa fb = go (eqb (of_z w32 a) (of_z w32 b)) refl
+  where
+    go : (t : Bool) → eqb (of_z w32 a) (of_z w32 b) ≡ t → t ≡ eq_z a b
+    go true e = sym (eq_eq_z (same_bits fa fb (eqb-true _ _ e)))
+    go false e = sym (ne_eq_z a b (λ q. let h = eq-eqb (of_z w32 a) (of_z w32 b) (ap (of_z w32) q) in let n : ◌≡◌ {A = ℕ} 0 1 = cc in omega arith))
+
+-- a truth is the number that it is told by
+
+pub truth_told : (t : Bool) → ◌≡◌ {A = Option ℤ} (Some (to_z w32 (of_z w32 (pos (bool_byte t))))) (truth t)
+truth_told true = refl
+truth_told false = refl

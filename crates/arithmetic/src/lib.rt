@@ -44,7 +44,7 @@ fn div(a: i32, b: i32) -> Option<i32>
     a.checked_div(b)
 }
 
-// Any number by -1 leaves 0; `checked_rem` has none at the least number.
+// Divided by -1, any number leaves 0; `checked_rem` gives None for the least one.
 fn rem(a: i32, b: i32) -> Option<i32>
     ensures { result ≡ compute_of Arithmetic.Rem a b }
 {
@@ -60,30 +60,22 @@ fn rem(a: i32, b: i32) -> Option<i32>
 fn lt(a: i32, b: i32) -> Option<i32>
     ensures { result ≡ compute_of Arithmetic.Lt a b }
 {
-    if a < b {
-        return Some(1);
-    }
-    Some(0)
+    Some(i32::from(a < b))
 }
 
 fn le(a: i32, b: i32) -> Option<i32>
     ensures { result ≡ compute_of Arithmetic.Le a b }
 {
-    if a <= b {
-        return Some(1);
-    }
-    Some(0)
+    Some(i32::from(a <= b))
 }
 
 fn eq(a: i32, b: i32) -> Option<i32>
     ensures { result ≡ compute_of Arithmetic.Eq a b }
 {
-    if a == b {
-        return Some(1);
-    }
-    Some(0)
+    Some(i32::from(a == b))
 }
 
+// The operation is data of the graph: a match over all eight, and no table of functions, which would hand out function pointers.
 pub fn compute(op: Arithmetic, a: i32, b: i32) -> Option<i32>
     ensures { result ≡ compute_of op a b }
 {

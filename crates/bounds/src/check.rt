@@ -4,15 +4,22 @@ ghost use Rattle.record.specs.GraphRecords.{graph_of};
 ghost use Rattle.rules.specs.Check.{demand, in_turn};
 ghost use Rattle.rules.specs.Needs.{loop_free, check_needs};
 
-use checks::{graph, stores};
+use checks::graph;
+use checks::lent::Lent;
+use checks::stores::Stores;
+use record::codec::Decode;
 use record::instruction;
 use record::instruction::Instruction;
+use record::operation::Operation;
 use rules::answer::{Fault, Refusal};
 
 fn is_loop_free(r: Instruction) -> bool
     ensures { result ≡ loop_free r }
 {
-    r.code < 7 || 9 < r.code
+    !matches!(
+        Operation::from(r.code),
+        Operation::Next | Operation::Enter | Operation::Leave
+    )
 }
 
 // 19: the first NEXT, ENTER or LEAVE.
@@ -20,7 +27,7 @@ fn loop_free(graph: &[u8]) -> Result<(), Fault>
     ensures { result ≡ in_turn (λ i r. demand (loop_free r) Refusal.NotLoopFree i) 0 (graph_of graph.now) }
 {
     for i in 0..graph.len() / instruction::WIDTH {
-        let r = instruction::instruction_at(graph, i);
+        let r = Instruction::read(graph, i);
         if !is_loop_free(r) {
             return Err(Refusal::NotLoopFree.at(i));
         }
@@ -32,7 +39,13 @@ pub fn check(graph: &[u8], inputs: &[u8]) -> Result<(), Fault>
     ensures { result ≡ check_needs graph.now inputs.now }
 {
     graph::check(graph)?;
-    stores::check(inputs.len(), 0, 0, 0)?;
+    let stores = Stores {
+        inputs: inputs.len(),
+        picks: 0,
+        ledger: 0,
+        cells: 0,
+    };
+    stores.check()?;
     check_inputs::fields(graph, inputs)?;
     loop_free(graph)
 }

@@ -5,8 +5,10 @@ ghost use Rattle.record.specs.Widths.{graph_width};
 ghost use Rattle.rules.specs.Needs.{firings_needed, outputs_needed};
 ghost use Rattle.bounds.specs.Reach.{sum_over};
 
+use record::codec::Decode;
 use record::instruction;
 use record::instruction::Instruction;
+use record::operation::Operation;
 
 // The firings and the outputs of all reached instructions.
 #[derive(Clone, Copy)]
@@ -19,20 +21,21 @@ pub struct Totals {
 fn firings_of(r: Instruction) -> usize
     ensures { (result ≡ firings_needed r) × (result ≤ 1) }
 {
-    if r.code == 3 { 0 } else { 1 }
+    match Operation::from(r.code) {
+        Operation::Out => 0,
+        _ => 1,
+    }
 }
 
 // A SWITCH has one output, whichever side it takes.
+#[tactic(auto, unfolding(rules::specs::Needs::outputs_needed))]
 fn outputs_of(r: Instruction) -> usize
     ensures { (result ≡ outputs_needed r) × (result ≤ 2) }
 {
-    if r.code == 5 {
-        return 1;
+    match Operation::from(r.code) {
+        Operation::Switch => 1,
+        _ => r.fanout.min(2) as usize,
     }
-    if 2 <= r.fanout {
-        return 2;
-    }
-    r.fanout as usize
 }
 
 pub fn total(graph: &[u8], reached: &[bool; 256]) -> Totals
@@ -45,7 +48,7 @@ pub fn total(graph: &[u8], reached: &[bool; 256]) -> Totals
     let mut outputs = 0;
     for i in 0..graph.len() / instruction::WIDTH {
         if reached[i] {
-            let r = instruction::instruction_at(graph, i);
+            let r = Instruction::read(graph, i);
             firings += firings_of(r);
             outputs += outputs_of(r);
         }

@@ -13,12 +13,13 @@ use record::token;
 use rules::answer::{Fault, Needs};
 
 // The bounds of a graph and inputs that passed.
+#[tactic(auto, unfolding(rules::specs::Needs::needs))]
 fn at_most(graph: &[u8], inputs: &[u8]) -> Needs
     requires { check_needs graph.now inputs.now ≡ Ok tt }
     ensures { Ok result ≡ needs graph.now inputs.now }
 {
-    let mut sent = reach::given(inputs);
-    let reached = reach::reach(graph, &mut sent);
+    let sent = reach::given(inputs);
+    let reached = reach::reach(graph, sent);
     let totals = count::total(graph, &reached);
     Needs {
         firings: totals.firings,

@@ -10,7 +10,9 @@ ghost use Rattle.rules.specs.Needs.{all_below, inputs_of};
 ghost use Rattle.rules.specs.Needs as Needs;
 ghost use Rattle.bounds.specs.Reach.{OnPort, GoodToken, port_entry, Ports, marked, sent_by_inputs, flag, ReachedSoFar, Round};
 
+use record::codec::Decode;
 use record::instruction::{Destination, Instruction};
+use record::token::Token;
 use record::{instruction, operation, token};
 
 fn entry(d: Destination) -> usize
@@ -27,7 +29,7 @@ pub fn given(inputs: &[u8]) -> [bool; 512]
 {
     let mut sent = [false; 512];
     for i in 0..inputs.len() / token::WIDTH {
-        let t = token::token_at(inputs, i);
+        let t = Token::read(inputs, i);
         let tag = t.tag;
         let at = entry(Destination {
             instruction: tag.instruction,
@@ -70,51 +72,63 @@ fn ready(graph: &[u8], sent: &[bool; 512], i: usize) -> bool
     sent[at + 1]
 }
 
-// Adds instruction i where it is ready, and marks the ports that it sends to; whether it was added.
-fn add(graph: &[u8], sent: &mut [bool; 512], reached: &mut [bool; 256], i: usize) -> bool
-    requires { (check_graph graph.now ≡ Ok tt) × (i < length graph.now / graph_width) }
-    ensures { (ts : List Token) (before : List Bool) (added : Bool)
-        → Round ts (graph_of graph.now) i before sent.old reached.old added
-        → Round ts (graph_of graph.now) (i + 1) before sent.new reached.new (added || result) }
-{
-    if reached[i] {
-        return false;
-    }
-    if !ready(graph, sent, i) {
-        return false;
-    }
-    reached[i] = true;
-    send(sent, instruction::instruction_at(graph, i));
-    true
+// What is reached so far. That the graph passed its check is said of its bytes, which are the caller's.
+#[derive(Drop)]
+struct SoFar {
+    sent: [bool; 512],
+    reached: [bool; 256],
 }
 
-// Adds each instruction that is ready; whether any was added.
-fn round(graph: &[u8], sent: &mut [bool; 512], reached: &mut [bool; 256]) -> bool
-    requires { check_graph graph.now ≡ Ok tt }
-    ensures { (ts : List Token)
-        → ReachedSoFar ts (graph_of graph.now) sent.old reached.old
-        → Round ts (graph_of graph.now) (length (graph_of graph.now)) reached.old sent.new reached.new result }
-{
-    let mut added = false;
-    for i in 0..graph.len() / instruction::WIDTH {
-        if add(graph, sent, reached, i) {
-            added = true;
+impl SoFar {
+    // Adds instruction i where it is ready, and marks the ports that it sends to; whether it was added.
+    fn add(&mut self, graph: &[u8], i: usize) -> bool
+        requires { (check_graph graph.now ≡ Ok tt) × (i < length graph.now / graph_width) }
+        ensures { (ts : List Token) (before : List Bool) (added : Bool)
+            → Round ts (graph_of graph.now) i before self.old.sent self.old.reached added
+            → Round ts (graph_of graph.now) (i + 1) before self.new.sent self.new.reached (added || result) }
+    {
+        if self.reached[i] {
+            return false;
         }
+        if !ready(graph, &self.sent, i) {
+            return false;
+        }
+        self.reached[i] = true;
+        send(&mut self.sent, Instruction::read(graph, i));
+        true
     }
-    added
+
+    // Adds each instruction that is ready; whether any was added.
+    fn round(&mut self, graph: &[u8]) -> bool
+        requires { check_graph graph.now ≡ Ok tt }
+        ensures { (ts : List Token)
+            → ReachedSoFar ts (graph_of graph.now) self.old.sent self.old.reached
+            → Round ts (graph_of graph.now) (length (graph_of graph.now)) self.old.reached self.new.sent self.new.reached result }
+    {
+        let mut added = false;
+        for i in 0..graph.len() / instruction::WIDTH {
+            if self.add(graph, i) {
+                added = true;
+            }
+        }
+        added
+    }
 }
 
 // The reached instructions, where `sent` has the ports that inputs send to. A round that adds none is
 // the last: no other would add any.
-pub fn reach(graph: &[u8], sent: &mut [bool; 512]) -> [bool; 256]
+pub fn reach(graph: &[u8], sent: [bool; 512]) -> [bool; 256]
     requires { check_graph graph.now ≡ Ok tt }
-    ensures { (ts : List Token) → Ports (sent_by_inputs ts) sent.old → (i : ℕ) → flag result i ≡ Needs.reached ts (graph_of graph.now) i }
+    ensures { (ts : List Token) → Ports (sent_by_inputs ts) sent → (i : ℕ) → flag result i ≡ Needs.reached ts (graph_of graph.now) i }
 {
-    let mut reached = [false; 256];
+    let mut so_far = SoFar {
+        sent,
+        reached: [false; 256],
+    };
     for _ in 0..graph.len() / instruction::WIDTH {
-        if !round(graph, sent, &mut reached) {
-            return reached;
+        if !so_far.round(graph) {
+            return so_far.reached;
         }
     }
-    reached
+    so_far.reached
 }

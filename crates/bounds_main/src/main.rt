@@ -4,6 +4,7 @@
 ghost use Rattle.std.specs.Prelude.{◌/◌, ◌≤◌, ◌<◌, length};
 ghost use Rattle.record.specs.Widths.{graph_width, token_width};
 
+use record::codec::Encode;
 use record::instruction::{Destination, Instruction};
 use record::tag::Tag;
 use record::token::{Content, Token};
@@ -30,22 +31,33 @@ fn say_bounds(rt: &impl Print, name: &str, graph: &[u8], inputs: &[u8]) -> io::R
     Ok(())
 }
 
-// A SWITCH has two destinations, OUT and LEAVE have none, and the others here one.
-fn fan_out(code: u8) -> u8 {
-    match code {
-        3 | 9 => 0,
-        5 => 2,
-        _ => 1,
+// The operations of these graphs, with their codes.
+#[derive(Clone, Copy)]
+enum Operation {
+    Copy = 1,
+    Out = 3,
+    Switch = 5,
+    Next = 7,
+    Leave = 9,
+    Add = 16,
+}
+
+// How many destinations an operation has here.
+fn fan_out(operation: Operation) -> u8 {
+    match operation {
+        Operation::Out | Operation::Leave => 0,
+        Operation::Copy | Operation::Next | Operation::Add => 1,
+        Operation::Switch => 2,
     }
 }
 
 // Record i: an operation that sends to port 0 of these instructions.
-fn put(graph: &mut [u8], i: usize, code: u8, first: u16, second: u16)
+fn put(graph: &mut [u8], i: usize, operation: Operation, first: u16, second: u16)
     requires { i < length graph.old / graph_width }
 {
     let r = Instruction {
-        code,
-        fanout: fan_out(code),
+        code: operation as u8,
+        fanout: fan_out(operation),
         first: Destination {
             instruction: first,
             port: 0,
@@ -57,9 +69,10 @@ fn put(graph: &mut [u8], i: usize, code: u8, first: u16, second: u16)
         constant: 0,
         zeros: 0,
     };
-    instruction::put_instruction(graph, i, r);
+    r.write(graph, i);
 }
 
+// Input i, a live token. The port is a number, as `Token` has it.
 fn put_input(inputs: &mut [u8], i: usize, instruction: u16, port: u8, value: i32)
     requires { i < length inputs.old / token_width }
 {
@@ -69,15 +82,15 @@ fn put_input(inputs: &mut [u8], i: usize, instruction: u16, port: u8, value: i32
         port,
         content: Content::Live(value),
     };
-    token::put_token(inputs, i, t);
+    t.write(inputs, i);
 }
 
 // ADD to OUT.
 fn say_sums(rt: &impl Print) -> io::Result<()> {
     let mut graph = [0u8; 2 * instruction::WIDTH];
     let mut inputs = [0u8; 2 * token::WIDTH];
-    put(&mut graph, 0, 16, 1, 0);
-    put(&mut graph, 1, 3, 0, 0);
+    put(&mut graph, 0, Operation::Add, 1, 0);
+    put(&mut graph, 1, Operation::Out, 0, 0);
     put_input(&mut inputs, 0, 0, 0, 7);
     put_input(&mut inputs, 1, 0, 1, -9);
     say_bounds(rt, "ADD", &graph, &inputs)?;
@@ -95,22 +108,22 @@ fn say_sums(rt: &impl Print) -> io::Result<()> {
 fn say_switch(rt: &impl Print) -> io::Result<()> {
     let mut graph = [0u8; 4 * instruction::WIDTH];
     let mut inputs = [0u8; 2 * token::WIDTH];
-    put(&mut graph, 0, 5, 1, 2);
-    put(&mut graph, 1, 1, 3, 0);
-    put(&mut graph, 2, 1, 3, 0);
-    put(&mut graph, 3, 3, 0, 0);
+    put(&mut graph, 0, Operation::Switch, 1, 2);
+    put(&mut graph, 1, Operation::Copy, 3, 0);
+    put(&mut graph, 2, Operation::Copy, 3, 0);
+    put(&mut graph, 3, Operation::Out, 0, 0);
     put_input(&mut inputs, 0, 0, 0, 7);
     put_input(&mut inputs, 1, 0, 1, 0);
     say_bounds(rt, "SWITCH", &graph, &inputs)
 }
 
-// COPY to an operation of that code to OUT, with an input to this instruction.
-fn say_through(rt: &impl Print, name: &str, code: u8, to: u16) -> io::Result<()> {
+// COPY to that operation to OUT, with an input to this instruction.
+fn say_through(rt: &impl Print, name: &str, operation: Operation, to: u16) -> io::Result<()> {
     let mut graph = [0u8; 3 * instruction::WIDTH];
     let mut inputs = [0u8; token::WIDTH];
-    put(&mut graph, 0, 1, 1, 0);
-    put(&mut graph, 1, code, 2, 0);
-    put(&mut graph, 2, 3, 0, 0);
+    put(&mut graph, 0, Operation::Copy, 1, 0);
+    put(&mut graph, 1, operation, 2, 0);
+    put(&mut graph, 2, Operation::Out, 0, 0);
     put_input(&mut inputs, 0, to, 0, 7);
     say_bounds(rt, name, &graph, &inputs)
 }
@@ -119,8 +132,8 @@ fn say_through(rt: &impl Print, name: &str, code: u8, to: u16) -> io::Result<()>
 fn say_leave(rt: &impl Print) -> io::Result<()> {
     let mut graph = [0u8; 2 * instruction::WIDTH];
     let mut inputs = [0u8; token::WIDTH];
-    put(&mut graph, 0, 1, 1, 0);
-    put(&mut graph, 1, 9, 0, 0);
+    put(&mut graph, 0, Operation::Copy, 1, 0);
+    put(&mut graph, 1, Operation::Leave, 0, 0);
     put_input(&mut inputs, 0, 0, 0, 7);
     say_bounds(rt, "LEAVE", &graph, &inputs)
 }
@@ -129,11 +142,11 @@ fn say_leave(rt: &impl Print) -> io::Result<()> {
 fn put_chain(graph: &mut [u8])
     requires { length graph.old ≤ 4096 }
 {
-    let mut code = 3;
+    let mut operation = Operation::Out;
     let mut to = 0;
     for i in 0..graph.len() / instruction::WIDTH {
-        put(graph, i, code, to, 0);
-        code = 1;
+        put(graph, i, operation, to, 0);
+        operation = Operation::Copy;
         to = i as u16;
     }
 }
@@ -150,9 +163,9 @@ fn say_chain(rt: &impl Print) -> io::Result<()> {
 fn main(rt: HostRuntime) -> io::Result<()> {
     say_sums(&rt)?;
     say_switch(&rt)?;
-    say_through(&rt, "NEXT", 7, 0)?;
-    say_through(&rt, "NEXT and an input to 9", 7, 9)?;
-    say_through(&rt, "COPY in its place", 1, 0)?;
+    say_through(&rt, "NEXT", Operation::Next, 0)?;
+    say_through(&rt, "NEXT and an input to 9", Operation::Next, 9)?;
+    say_through(&rt, "COPY in its place", Operation::Copy, 0)?;
     say_leave(&rt)?;
     say_chain(&rt)
 }

@@ -1,3 +1,2 @@
 -- What holds of records of one width. Assumes nothing.
 pub mod Tables
-pub mod Copies

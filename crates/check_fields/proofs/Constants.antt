@@ -3,19 +3,21 @@ use Prim.Native.Nat.{ℕ, ◌≤◌, ◌<◌}
 use native.Mathlib.Omega.{arith}
 use mathlib.Core.Path.{◌≡◌, refl, sym, ap, ◌∙◌}
 use mathlib.Core.Bool.{Bool, true, false, ◌&&◌, cond}
-use lib.Dec.{T, eqb, leb, ltb}
+use lib.Dec.{eqb, leb, ltb}
 use lib.IntN.{ℤ, pos, negsuc, nat_abs}
-use lib.Signed.{lt_z, non_neg}
-use borrow.Author.Tests.{leb-true, leb-false, le-leb, lt-leb, lt-ltb, ltb-true, ltb-false, ne_eqb, eqb-true, eqb-false}
+use borrow.Author.Tests.{leb-true, leb-false, le-leb, lt-leb, lt-ltb, le-ltb, ne_eqb, eqb-true, eqb-false}
 use mir.Syntax.{w32}
 use mir.Val.{SFits, of_z}
 use mir.Facts.{sfits_lit}
+use Rattle.std.specs.Prelude.{Option, Some, None, Result, Ok, Err, OkIff, SomeIff, is_some, unsigned_abs}
+use Rattle.std.specs.Int.{FitsUnsignedBits}
+use Rattle.std.specs.Result.{result_ok}
 use Rattle.arithmetic.specs.Arithmetic.{eq_z}
 use Rattle.arithmetic.proofs.Signed.{same_bits}
 use Rattle.arithmetic.proofs.Ranged.{eq_eq_z, ne_eq_z}
 use Rattle.rules.specs.Check.{within}
 use Rattle.check_fields.specs.Sites.{small_of}
-use Rattle.check_fields.proofs.Turns.{and_true_left, and_true_right}
+use Rattle.check_fields.proofs.Turns.{and-true, and_true_left, and_true_right}
 
 pub within_small : (k : ℤ) → within 0 255 k ≡ ltb (small_of k) 256
 unfolding within small_of
@@ -69,25 +71,33 @@ unfolding within
 within_is a b (pos n) e = (refl, leb-true a n (and_true_left (leb a n) (leb n b) e), leb-true n b (and_true_right (leb a n) (leb n b) e))
 within_is a b (negsuc n) e = let z : ◌≡◌ {A = ℕ} 0 1 = cc in absurd (omega arith)
 
--- the cases of the code
-pub negative_small : (k : ℤ) → lt_z k (pos 0) ≡ true → 256 ≡ small_of k
+-- what the conversion into a byte gives
+pub small_converted : {E : Type 0} (r : Result ℕ E) (k : ℤ) → OkIff r (FitsUnsignedBits 8 k) (unsigned_abs k) → SomeIff (result_ok r) (small_of k < 256) (small_of k)
 unfolding small_of
-negative_small (pos n) e = absurd (omega (arith, ltb-true n 0 e))
-negative_small (negsuc n) e = refl
+small_converted (Ok x) (pos n) h = rw (le-leb n 255 (omega (arith, h.0))) h
+small_converted (Ok x) (negsuc n) h = absurd h.0
+small_converted (Err e) (pos n) h = go (leb n 255) refl
+  where
+    go : (b : Bool) → leb n 255 ≡ b → ¬ (cond b n 256 < 256)
+    go true p l = h l
+    go false p l = omega (arith, l)
+small_converted (Err e) (negsuc n) h = λ l. omega (arith, l)
 
-pub large_small : (k : ℤ) → lt_z (pos 255) k ≡ true → 256 ≡ small_of k
-unfolding small_of
-large_small (pos n) e = rw (lt-leb n 255 (ltb-true 255 n e))
-large_small (negsuc n) e = refl
+module _ (k : ℤ) where
+  pub within_none : ¬ (small_of k < 256) → within 1 255 k ≡ false
+  within_none h = rw (within_site k, le-ltb (small_of k) 256 (omega (arith, h))) (and_false (leb 1 (small_of k)))
+    where
+      and_false : (b : Bool) → (b && false) ≡ false
+      and_false true = refl
+      and_false false = refl
 
-pub between_small : (k : ℤ) → lt_z k (pos 0) ≡ false → lt_z (pos 255) k ≡ false → nat_abs k ≡ small_of k
-unfolding small_of
-between_small (pos n) e f = rw (le-leb n 255 (ltb-false 255 n f))
-between_small (negsuc n) e f = let z : ◌≡◌ {A = ℕ} 0 1 = cc in absurd (omega arith)
+  pub within_some : small_of k < 256 → within 1 255 k ≡ leb 1 (small_of k)
+  within_some h = rw (within_site k, lt-ltb (small_of k) 256 h) (and-true (leb 1 (small_of k)))
 
-pub between_is : (k : ℤ) → lt_z k (pos 0) ≡ false → lt_z (pos 255) k ≡ false → T (non_neg k) × nat_abs k < 256
-between_is (pos n) e f = (tt, omega (arith, ltb-false 255 n f))
-between_is (negsuc n) e f = let z : ◌≡◌ {A = ℕ} 0 1 = cc in absurd (omega arith)
+  -- whether there is one
+  pub some_small : (o : Option ℕ) → SomeIff o (small_of k < 256) (small_of k) → is_some o ≡ within 0 255 k
+  some_small (Some x) h = sym (within_small k ∙ lt-ltb (small_of k) 256 h.0)
+  some_small None h = sym (within_small k ∙ le-ltb (small_of k) 256 (omega (arith, h)))
 
 -- a number is 0 if its bits are
 pub zero_bits : (k : ℤ) → SFits w32 k → eqb (of_z w32 k) 0 ≡ eq_z k (pos 0)

@@ -1,6 +1,6 @@
 -- Working definition: no public promise cites it.
 -- What the check of the graph keeps by site, so that no ENTER looks through the records before it. Assumes nothing.
-use Rattle.std.specs.Prelude.{ℕ, zero, suc, ◌<◌, ◌≡◌, Bool, false, not, ◌&&◌, cond, List, get_or, set, ℤ, pos, negsuc, eqb, leb, ltb}
+use Rattle.std.specs.Prelude.{ℕ, ◌<◌, ◌≡◌, Bool, false, not, ◌&&◌, cond, List, get_or, set, ℤ, pos, negsuc, eqb, leb, ltb, Option, Some, None}
 use Rattle.record.specs.declared.instruction.Instruction.{Instruction}
 use Rattle.rules.specs.Check.{any, enters_site}
 
@@ -13,15 +13,15 @@ small_of (negsuc n) = 256
 abbrev pub enters_other : (site i : ℕ) → Instruction → Bool
 enters_other site i e = enters_site (pos site) e && not (eqb e.second.instruction i)
 
--- an entry of the table is 0 if no ENTER has its site, else 1 more than the return: is that another than instruction i?
-abbrev pub is_other : (entry i : ℕ) → Bool
-is_other zero i = false
-is_other (suc j) i = not (eqb j i)
+-- is the return that is known of a site, if one is, another than instruction i?
+abbrev pub is_other : Option ℕ → (i : ℕ) → Bool
+is_other None i = false
+is_other (Some j) i = not (eqb j i)
 
 -- the table tells of each site whether one of these records enters it with another return
-abbrev pub Sites : List Instruction → List ℕ → Type 0
-Sites g t = (site i : ℕ) → site < 256 → any (enters_other site i) g ≡ is_other (get_or t site 0) i
+abbrev pub Sites : List Instruction → List (Option ℕ) → Type 0
+Sites g t = (site i : ℕ) → site < 256 → any (enters_other site i) g ≡ is_other (get_or t site None) i
 
 -- a table by site after a record: an ENTER puts v at its site
-unfoldable pub at_site : List ℕ → Instruction → (v : ℕ) → List ℕ
+unfoldable pub at_site : {A : Type 0} → List A → Instruction → (v : A) → List A
 at_site t r v = cond (eqb r.code 8 && ltb (small_of r.constant) 256) (set t (small_of r.constant) v) t

@@ -1,44 +1,37 @@
 // Refusal 4: an arc ends at a port that its instruction has.
 ghost use Rattle.std.specs.Prelude.{◌≡◌};
-ghost use Rattle.record.specs.GraphRecords.{OperandCounts, graph_of, destinations};
+ghost use Rattle.record.specs.GraphRecords.{graph_of, destinations};
 ghost use Rattle.rules.specs.Check.{operands_at, good_arc, all};
 
+use record::instruction;
 use record::instruction::{Destination, Instruction};
-use record::{instruction, operation};
+use record::operation::OperandCounts;
 
 // The operand count of an instruction, 0 for an absent one.
-pub fn operands_at(counts: &[u8; 256], graph: &[u8], i: u16) -> u8
-    requires { OperandCounts counts.now }
+pub fn operands_at(counts: &OperandCounts, graph: &[u8], i: u16) -> u8
     ensures { result ≡ operands_at (graph_of graph.now) i }
 {
     let at = i as usize;
     if at < graph.len() / instruction::WIDTH {
-        operation::count_of(counts, graph[at * instruction::WIDTH])
+        counts.of(graph[at * instruction::WIDTH])
     } else {
         0
     }
 }
 
-fn good(counts: &[u8; 256], graph: &[u8], d: Destination) -> bool
-    requires { OperandCounts counts.now }
+fn good(counts: &OperandCounts, graph: &[u8], d: Destination) -> bool
     ensures { result ≡ good_arc (graph_of graph.now) d }
 {
     d.port < operands_at(counts, graph, d.instruction)
 }
 
 // The arcs in use.
-pub fn all_good(counts: &[u8; 256], graph: &[u8], r: Instruction) -> bool
-    requires { OperandCounts counts.now }
+pub fn all_good(counts: &OperandCounts, graph: &[u8], r: Instruction) -> bool
     ensures { result ≡ all (good_arc (graph_of graph.now)) (destinations r) }
 {
-    let fan_out = r.fanout;
-    let first = r.first;
-    let second = r.second;
-    if fan_out == 0 {
-        return true;
+    match r.fanout {
+        0 => true,
+        1 => good(counts, graph, r.first),
+        _ => good(counts, graph, r.first) && good(counts, graph, r.second),
     }
-    if fan_out == 1 {
-        return good(counts, graph, first);
-    }
-    good(counts, graph, first) && good(counts, graph, second)
 }

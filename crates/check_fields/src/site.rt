@@ -1,52 +1,87 @@
-// Refusal 5: the sites of ENTER and the constants of LEAVE. A table by site says which return the records so far gave it:
-// 0 for none, else 1 more than the instruction.
-ghost use Rattle.std.specs.Prelude.{◌≡◌, suc, not, ◌&&◌, List, get_or, eqb};
+// Refusal 5: the sites of ENTER and the constants of LEAVE.
+ghost use Rattle.std.specs.Prelude.{◌≡◌, ◌<◌, not, ◌&&◌, List, get_or, replicate, eqb, Some, None, SomeIff, is_some};
 ghost use Rattle.record.specs.declared.instruction.Instruction.{Instruction};
 ghost use Rattle.rules.specs.Check.{within, good_site};
 ghost use Rattle.check_fields.specs.Sites.{small_of, is_other, Sites, at_site};
 
 use crate::constant;
 use record::instruction::{Destination, Instruction};
+use record::operation::Operation;
+use std::marker::Model;
 
-// Whether a table's entry is another return.
-fn other(entry: u32, i: u16) -> bool
-    ensures { result ≡ is_other entry i }
+// The site of an ENTER whose constant can be one.
+pub fn site_of(r: Instruction) -> Option<u8>
+    ensures { SomeIff result ((r.code ≡ 8) × (small_of r.constant < 256)) (small_of r.constant) }
 {
-    entry != 0 && entry - 1 != i as u32
+    match Operation::from(r.code) {
+        Operation::Enter => constant::small(r.constant),
+        _ => None,
+    }
 }
 
-// Of an ENTER: the site, the return's port, and the returns of the records before.
-fn good_enter(sites: &[u32; 256], constant: i32, back: Destination) -> bool
-    ensures { result ≡ (within 1 255 constant && (eqb back.port 0 && not (is_other (get_or sites.now (small_of constant) 0) back.instruction))) }
-{
-    let site = constant::small(constant);
-    1 <= site && (site < 256 && (back.port == 0 && !other(sites[site], back.instruction)))
+// The returns that the records so far gave, by site. Clauses see the list of them.
+#[derive(Drop)]
+pub struct Entered {
+    returns: [Option<u16>; 256],
 }
 
-pub fn good(sites: &[u32; 256], r: Instruction) -> bool
-    ensures { (earlier : List Instruction) → Sites earlier sites.now → result ≡ good_site earlier r }
-{
-    let code = r.code;
-    let back = r.second;
-    if code == 8 {
-        return good_enter(sites, r.constant, back);
-    }
-    if code == 9 {
-        return constant::small(r.constant) < 256;
-    }
-    true
+impl Model for Entered {
+    ghost use Rattle.std.specs.Prelude.{List, ℕ, Option};
+
+    ghost Value = { List (Option ℕ) };
+
+    ghost view = { λ s. s.returns };
 }
 
-// Puts the return of an ENTER into the table.
-pub fn note(sites: &mut [u32; 256], r: Instruction)
-    ensures { sites.new ≡ at_site sites.old r (suc r.second.instruction) }
+// Whether a return that is known is another one.
+fn other(known: Option<u16>, i: u16) -> bool
+    ensures { result ≡ is_other known i }
 {
-    let back = r.second;
-    if r.code != 8 {
-        return;
+    known.is_some_and(|j| j != i)
+}
+
+impl Entered {
+    pub fn none() -> Entered
+        ensures { result ≡ replicate 256 None }
+    {
+        Entered {
+            returns: [None; 256],
+        }
     }
-    let site = constant::small(r.constant);
-    if site < 256 {
-        sites[site] = back.instruction as u32 + 1;
+
+    // Whether a record entered the site.
+    pub fn has(&self, site: u8) -> bool
+        ensures { result ≡ is_some (get_or self.now site None) }
+    {
+        self.returns[site as usize].is_some()
+    }
+
+    // Of an ENTER: the site, the return's port, and the returns of the records before.
+    fn good_enter(&self, constant: i32, back: Destination) -> bool
+        ensures { result ≡ (within 1 255 constant && (eqb back.port 0 && not (is_other (get_or self.now (small_of constant) None) back.instruction))) }
+    {
+        let Some(site) = constant::small(constant) else {
+            return false;
+        };
+        1 <= site && (back.port == 0 && !other(self.returns[site as usize], back.instruction))
+    }
+
+    pub fn good(&self, r: Instruction) -> bool
+        ensures { (earlier : List Instruction) → Sites earlier self.now → result ≡ good_site earlier r }
+    {
+        match Operation::from(r.code) {
+            Operation::Enter => self.good_enter(r.constant, r.second),
+            Operation::Leave => constant::small(r.constant).is_some(),
+            _ => true,
+        }
+    }
+
+    // Puts the return of an ENTER into the table.
+    pub fn note(&mut self, r: Instruction)
+        ensures { self.new ≡ at_site self.old r (Some r.second.instruction) }
+    {
+        if let Some(site) = site_of(r) {
+            self.returns[site as usize] = Some(r.second.instruction);
+        }
     }
 }

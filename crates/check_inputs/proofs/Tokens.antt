@@ -35,7 +35,7 @@ any_more f xs i n h e =
     let s : n ≡ i + (n - i) = omega arith in
     rw (s, take-add i (n - i) xs, any_append f (take i xs) (take (n - i) (drop i xs)), e)
 
-pub none_seen : SeenEntries [] (replicate 512 0)
+pub none_seen : SeenEntries [] (replicate 512 false)
 none_seen tag port z = refl
 
 -- a token that stands at a port of a tag has that one's entry
@@ -47,18 +47,21 @@ same_entry tag port t e =
     let i = eqb-true t.tag.instruction tag.instruction (and_true_right (eqb t.tag.iteration tag.iteration) _ (and_true_right (same_path t.tag.path tag.path) _ q)) in
     rw (p, i)
 
-pub see : (ts : List Token) (table : List ℕ) (t : Token) → SeenEntries ts table → length table ≡ 512 → SeenEntries (ts ++ t ∷ []) (set table (entry_of t.tag t.port) 1)
+pub see : (ts : List Token) (table : List Bool) (t : Token) → SeenEntries ts table → length table ≡ 512 → SeenEntries (ts ++ t ∷ []) (set table (entry_of t.tag t.port) true)
 see ts table t seen n tag port z =
     any_append (stands_at tag port) ts (t ∷ [])
     ∙ rw (or-false (stands_at tag port t)) (go (eqb (entry_of tag port) (entry_of t.tag t.port)) (stands_at tag port t) refl refl)
   where
+    differ : {P : Type 0} → true ≡ false → P
+    differ q = let k : ◌≡◌ {A = ℕ} 0 1 = cc in absurd (omega arith)
+
     go : (b s : Bool) → eqb (entry_of tag port) (entry_of t.tag t.port) ≡ b → stands_at tag port t ≡ s → (any (stands_at tag port) ts || s) ≡ false
     go true s p q =
         let e = eqb-true (entry_of tag port) (entry_of t.tag t.port) p in
-        let one = get_or-set_same table (entry_of t.tag t.port) 1 0 (omega arith) in
-        let z' : get_or (set table (entry_of t.tag t.port) 1) (entry_of t.tag t.port) 0 ≡ 0 = rw e at z in
-        absurd (omega arith)
+        let one = get_or-set_same table (entry_of t.tag t.port) true false (omega arith) in
+        let z' : get_or (set table (entry_of t.tag t.port) true) (entry_of t.tag t.port) false ≡ false = rw e at z in
+        differ (sym one ∙ z')
     go false true p q = absurd (eqb-false (entry_of tag port) (entry_of t.tag t.port) p (same_entry tag port t q))
     go false false p q =
         or-false (any (stands_at tag port) ts)
-        ∙ seen tag port (sym (get_or-set_other table (entry_of t.tag t.port) (entry_of tag port) 1 0 (eqb-false (entry_of tag port) (entry_of t.tag t.port) p)) ∙ z)
+        ∙ seen tag port (sym (get_or-set_other table (entry_of t.tag t.port) (entry_of tag port) true false (eqb-false (entry_of tag port) (entry_of t.tag t.port) p)) ∙ z)

@@ -1,6 +1,6 @@
 -- Working definition: no public promise cites it.
 -- What the check of the inputs keeps of those before, so that it looks through them only where a second token is likely. Assumes nothing.
-use Rattle.std.specs.Prelude.{ℕ, ◌+◌, ◌*◌, ◌%◌, ◌≡◌, false, not, List, get_or, take}
+use Rattle.std.specs.Prelude.{ℕ, ◌+◌, ◌*◌, ◌%◌, ◌≡◌, Bool, false, not, List, get_or, take}
 use Rattle.record.specs.declared.tag.Tag.{Tag}
 use Rattle.record.specs.declared.token.Token.{Token}
 use Rattle.record.specs.declared.instruction.Instruction.{Instruction}
@@ -26,6 +26,6 @@ check_second inputs = in_turn (λ i t. demand (not (second_input (take i (input_
 abbrev pub entry_of : Tag → (port : ℕ) → ℕ
 entry_of tag port = tag.instruction % 256 * 2 + port % 2
 
--- where the table has 0, none of these tokens stands
-abbrev pub SeenEntries : List Token → List ℕ → Type 0
-SeenEntries ts table = (tag : Tag) (port : ℕ) → get_or table (entry_of tag port) 0 ≡ 0 → any (stands_at tag port) ts ≡ false
+-- where the table has no mark, none of these tokens stands
+abbrev pub SeenEntries : List Token → List Bool → Type 0
+SeenEntries ts table = (tag : Tag) (port : ℕ) → get_or table (entry_of tag port) false ≡ false → any (stands_at tag port) ts ≡ false

@@ -8,11 +8,14 @@ ghost use Rattle.rules.specs.Check.{demand, all, in_turn, inside_store, names_go
 
 use check_fields::constant;
 use record::array::NamedArray;
+use record::codec::Decode;
 use record::instruction::Instruction;
+use record::operation::Operation;
 use record::{array, instruction};
 use rules::answer::{Fault, Refusal};
 
 // Whether an array from a first cell on, of this length, ends in the store.
+#[tactic(auto, unfolding(rules::specs::Check::inside_store))]
 fn ends_inside(first: u16, length: u16, cells: usize) -> bool
     ensures { result ≡ inside_store cells (record { first = first; length = length }) }
 {
@@ -30,7 +33,7 @@ fn all_inside(arrays: &[u8], cells: usize) -> bool
     ensures { result ≡ all (inside_store cells) (arrays_of arrays.now) }
 {
     for i in 0..arrays.len() / array::WIDTH {
-        if !inside(array::array_at(arrays, i), cells) {
+        if !inside(NamedArray::read(arrays, i), cells) {
             return false;
         }
     }
@@ -49,7 +52,13 @@ fn names_good(n: usize, r: Instruction) -> bool
     requires { n < 256 }
     ensures { result ≡ names_good n r }
 {
-    !constant::names_array(r.code) || constant::small(r.constant) <= n
+    if !constant::names_array(Operation::from(r.code)) {
+        return true;
+    }
+    match constant::small(r.constant) {
+        Some(k) => k as usize <= n,
+        None => false,
+    }
 }
 
 // The instructions in turn, by the number of arrays.
@@ -58,7 +67,7 @@ fn names(graph: &[u8], n: usize) -> Result<(), Fault>
     ensures { result ≡ in_turn (λ i r. demand (names_good n r) Refusal.BadArray i) 0 (graph_of graph.now) }
 {
     for i in 0..graph.len() / instruction::WIDTH {
-        if !names_good(n, instruction::instruction_at(graph, i)) {
+        if !names_good(n, Instruction::read(graph, i)) {
             return Err(Refusal::BadArray.at(i));
         }
     }

@@ -1,12 +1,15 @@
 // Refusals 1 to 5: the graph.
 ghost use Rattle.std.specs.Prelude.{◌≡◌, take};
-ghost use Rattle.record.specs.GraphRecords.{OperandCounts, is_graph_length, graph_of};
+ghost use Rattle.record.specs.GraphRecords.{is_graph_length, graph_of};
 ghost use Rattle.rules.specs.Check.{demand, ◌and_then◌, in_turn, check_record, check_graph};
 ghost use Rattle.check_fields.specs.Sites.{Sites};
 
-use check_fields::{arc, fan_out, site};
+use check_fields::site::Entered;
+use check_fields::{arc, fan_out};
+use record::codec::Decode;
+use record::instruction;
 use record::instruction::Instruction;
-use record::{instruction, operation};
+use record::operation::OperandCounts;
 use rules::answer::{Fault, Refusal};
 
 // The first refusal of record i, by what each of 2 to 5 demands of it.
@@ -30,19 +33,19 @@ fn first_fault(i: usize, known: bool, fields: bool, arcs: bool, site: bool) -> R
 
 // Record i: 2 to 5.
 fn record(
-    counts: &[u8; 256],
+    counts: &OperandCounts,
     graph: &[u8],
-    sites: &[u32; 256],
+    sites: &Entered,
     i: usize,
     r: Instruction,
 ) -> Result<(), Fault>
-    requires { OperandCounts counts.now × Sites (take i (graph_of graph.now)) sites.now }
+    requires { Sites (take i (graph_of graph.now)) sites.now }
     ensures { result ≡ check_record (graph_of graph.now) i r }
 {
-    let known = 1 <= operation::count_of(counts, r.code);
+    let known = 1 <= counts.of(r.code);
     let fields = fan_out::good(r);
     let arcs = arc::all_good(counts, graph, r);
-    let site = site::good(sites, r);
+    let site = sites.good(r);
     first_fault(i, known, fields, arcs, site)
 }
 
@@ -50,12 +53,12 @@ fn record(
 fn records(graph: &[u8]) -> Result<(), Fault>
     ensures { result ≡ in_turn (check_record (graph_of graph.now)) 0 (graph_of graph.now) }
 {
-    let counts = operation::counts();
-    let mut sites = [0u32; 256];
+    let counts = OperandCounts::new();
+    let mut sites = Entered::none();
     for i in 0..graph.len() / instruction::WIDTH {
-        let r = instruction::instruction_at(graph, i);
+        let r = Instruction::read(graph, i);
         record(&counts, graph, &sites, i, r)?;
-        site::note(&mut sites, r);
+        sites.note(r);
     }
     Ok(())
 }

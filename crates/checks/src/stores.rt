@@ -5,6 +5,7 @@ ghost use Rattle.record.specs.Widths.{pick_width};
 ghost use Rattle.rules.specs.Check.{check_stores};
 ghost use Rattle.rules.specs.Log.{log_suffices, check_log_stores};
 
+use crate::lent::Lent;
 use record::{cell, log, pick, token};
 use rules::answer::{Fault, Refusal};
 
@@ -26,13 +27,31 @@ pub fn all_whole(
                 && buffer::whole(cell, cell::MOST, cells)))
 }
 
-pub fn check(inputs: usize, picks: usize, ledger: usize, cells: usize) -> Result<(), Fault>
-    ensures { result ≡ check_stores inputs picks ledger cells }
-{
-    if all_whole(token::WIDTH, cell::WIDTH, inputs, picks, ledger, cells) {
-        Ok(())
-    } else {
-        Err(Refusal::BadStore.at(0))
+// The stores of a plain run.
+#[derive(Clone, Copy)]
+pub struct Stores {
+    pub inputs: usize,
+    pub picks: usize,
+    pub ledger: usize,
+    pub cells: usize,
+}
+
+impl Lent for Stores {
+    ghost checked = { λ s. check_stores s.inputs s.picks s.ledger s.cells };
+
+    fn check(&self) -> Result<(), Fault> {
+        if all_whole(
+            token::WIDTH,
+            cell::WIDTH,
+            self.inputs,
+            self.picks,
+            self.ledger,
+            self.cells,
+        ) {
+            Ok(())
+        } else {
+            Err(Refusal::BadStore.at(0))
+        }
     }
 }
 
@@ -44,21 +63,23 @@ fn log_suffices(budget: usize, log: usize) -> bool
     log % log::WIDTH == 0 && (budget <= records || token::MOST <= records)
 }
 
-// The same with a log.
-pub fn check_logged(
-    inputs: usize,
-    picks: usize,
-    ledger: usize,
-    cells: usize,
-    budget: usize,
-    log: usize,
-) -> Result<(), Fault>
-    ensures { result ≡ check_log_stores inputs picks ledger cells budget log }
-{
-    check(inputs, picks, ledger, cells)?;
-    if log_suffices(budget, log) {
-        Ok(())
-    } else {
-        Err(Refusal::BadStore.at(0))
+// The same with a log, for so many firings.
+#[derive(Clone, Copy)]
+pub struct Logged {
+    pub stores: Stores,
+    pub budget: usize,
+    pub log: usize,
+}
+
+impl Lent for Logged {
+    ghost checked = { λ l. check_log_stores l.stores.inputs l.stores.picks l.stores.ledger l.stores.cells l.budget l.log };
+
+    fn check(&self) -> Result<(), Fault> {
+        self.stores.check()?;
+        if log_suffices(self.budget, self.log) {
+            Ok(())
+        } else {
+            Err(Refusal::BadStore.at(0))
+        }
     }
 }

@@ -11,6 +11,7 @@ pub fn read_full(input: &mut impl Read, buf: &mut [u8]) -> io::Result<usize>
     ensures { IfOk result (λ n. n ≤ length buf.new) }
 {
     let mut done = 0;
+    // No `for`: each turn goes on by as many bytes as the read gave.
     while done < buf.len() {
         let n = input.read(&mut buf[done..])?;
         if n == 0 {

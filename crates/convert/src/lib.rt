@@ -14,21 +14,22 @@ const OLD_PATH: usize = 8;
 
 const PATH: usize = 16;
 
-// The bytes behind the path: of a token, and of a firing in a log.
-const TOKEN_REST: usize = 12;
-
-const LOG_REST: usize = 4;
+// A record by the number of bytes behind its path.
+#[derive(Clone, Copy)]
+struct Layout {
+    rest: usize,
+    ghost few: { rest ≤ 12 },
+}
 
 // Writes record i of `old` as record i of `out`.
-fn put_record(rest: usize, old: &[u8], out: &mut [u8], i: usize)
-    requires rest_bound { rest ≤ 12 }
-    requires rest_in_bounds { i * (8 + rest) + (8 + rest) ≤ length old.now }
-    requires rest_in_bounds_2 { i * (16 + rest) + (16 + rest) ≤ length out.old }
-    ensures { out.new ≡ put_row (16 + rest) out.old i (widened rest (drop (i * (8 + rest)) old.now)) }
+fn put_record(layout: Layout, old: &[u8], out: &mut [u8], i: usize)
+    requires old_in_bounds { i * (8 + layout.rest) + (8 + layout.rest) ≤ length old.now }
+    requires out_in_bounds { i * (16 + layout.rest) + (16 + layout.rest) ≤ length out.old }
+    ensures { out.new ≡ put_row (16 + layout.rest) out.old i (widened layout.rest (drop (i * (8 + layout.rest)) old.now)) }
 {
-    let end = OLD_PATH + rest;
+    let end = OLD_PATH + layout.rest;
     let row = buffer::row_at(old, end, i);
-    let at = i * (PATH + rest);
+    let at = i * (PATH + layout.rest);
     let zeros = [0; OLD_PATH];
     buffer::write_at(out, at, &row[0..OLD_PATH]);
     buffer::write_at(out, at + OLD_PATH, &zeros);
@@ -36,34 +37,34 @@ fn put_record(rest: usize, old: &[u8], out: &mut [u8], i: usize)
 }
 
 // Writes every record of `old` to `out`.
-fn put_records(rest: usize, old: &[u8], out: &mut [u8])
-    requires rest_bound { rest ≤ 12 }
-    requires out_len { length out.old ≡ length old.now / (8 + rest) * (16 + rest) }
-    ensures { out.new ≡ converted rest old.now }
+#[tactic(auto, unfolding(crate::specs::Convert::converted))]
+fn put_records(layout: Layout, old: &[u8], out: &mut [u8])
+    requires { length out.old ≡ length old.now / (8 + layout.rest) * (16 + layout.rest) }
+    ensures { out.new ≡ converted layout.rest old.now }
 {
-    let count = old.len() / (OLD_PATH + rest);
+    let count = old.len() / (OLD_PATH + layout.rest);
     for i in 0..count {
-        put_record(rest, old, out, i);
+        put_record(layout, old, out, i);
     }
 }
 
 // Whether an output of one length takes the old records of another.
-fn accepts(rest: usize, old: usize, out: usize) -> bool
-    requires { rest ≤ 12 }
-    ensures { result ≡ convert_accepted rest old out }
+#[tactic(auto, unfolding(crate::specs::Convert::convert_accepted))]
+fn accepts(layout: Layout, old: usize, out: usize) -> bool
+    ensures { result ≡ convert_accepted layout.rest old out }
 {
-    let width = OLD_PATH + rest;
-    buffer::whole(width, token::MOST, old) && out == old / width * (PATH + rest)
+    let width = OLD_PATH + layout.rest;
+    buffer::whole(width, token::MOST, old) && out == old / width * (PATH + layout.rest)
 }
 
 // Writes the records of `old` to `out`, the new bytes zero. A bad store, with `out` untouched, unless
 // `old` is whole records, 2,048 at most, and `out` has the length of as many new ones.
-fn convert_records(rest: usize, old: &[u8], out: &mut [u8]) -> Result<(), Refusal>
-    requires { rest ≤ 12 }
-    ensures { ConvertedBy rest old.now out.old out.new result }
+#[tactic(auto, unfolding(crate::specs::Convert::convert_result, crate::specs::Convert::converted_out, crate::specs::Convert::convert_accepted))]
+fn convert_records(layout: Layout, old: &[u8], out: &mut [u8]) -> Result<(), Refusal>
+    ensures { ConvertedBy layout.rest old.now out.old out.new result }
 {
-    if accepts(rest, old.len(), out.len()) {
-        put_records(rest, old, out);
+    if accepts(layout, old.len(), out.len()) {
+        put_records(layout, old, out);
         Ok(())
     } else {
         Err(Refusal::BadStore)
@@ -74,12 +75,12 @@ fn convert_records(rest: usize, old: &[u8], out: &mut [u8]) -> Result<(), Refusa
 pub fn convert(old: &[u8], out: &mut [u8]) -> Result<(), Refusal>
     ensures { ConvertedBy token_rest old.now out.old out.new result }
 {
-    convert_records(TOKEN_REST, old, out)
+    convert_records(Layout { rest: 12 }, old, out)
 }
 
 // The firings of a log.
 pub fn convert_log(old: &[u8], out: &mut [u8]) -> Result<(), Refusal>
     ensures { ConvertedBy log_rest old.now out.old out.new result }
 {
-    convert_records(LOG_REST, old, out)
+    convert_records(Layout { rest: 4 }, old, out)
 }

@@ -8,6 +8,7 @@ ghost use Rattle.store_flags.specs.Flags.{places};
 ghost use Rattle.store_enabled.specs.Enabled.{enabled_places};
 ghost use Rattle.ending.specs.Endings.{proper_by, state_spent, four_spent, EndsWith, RestsAs};
 
+use record::codec::Decode;
 use record::token;
 use record::token::{Content, Token};
 use rules::answer::Outcome;
@@ -27,23 +28,20 @@ fn proper(tables: &Tables, t: Token) -> bool
     }
 }
 
-// The same of record i of a ledger. Most tokens at a run's end are spent: of these the state alone is read.
-pub fn proper_at(tables: &Tables, ledger: &[u8], i: usize) -> bool
-    requires { i < length ledger.now / token_width }
-    ensures { result ≡ proper_by tables.now (token_at ledger.now i) }
-{
-    if ledger[i * token::WIDTH + token::STATE] == 1 {
-        return true;
-    }
-    proper(tables, token::token_at(ledger, i))
-}
-
-// Whether the token of record i of a ledger is spent.
+// Whether the token of record i of a ledger is spent, by its state alone: decoding the token would read all of it.
 fn spent_at(ledger: &[u8], i: usize) -> bool
     requires { i < length ledger.now / token_width }
     ensures { result ≡ state_spent ledger.now i }
 {
     ledger[i * token::WIDTH + token::STATE] == 1
+}
+
+// Whether a completed run may leave record i of a ledger. Most tokens at a run's end are spent: of these the state alone is read.
+pub fn proper_at(tables: &Tables, ledger: &[u8], i: usize) -> bool
+    requires { i < length ledger.now / token_width }
+    ensures { result ≡ proper_by tables.now (token_at ledger.now i) }
+{
+    spent_at(ledger, i) || proper(tables, Token::read(ledger, i))
 }
 
 // Whether there are four records before record i of a ledger, and they are spent.
@@ -57,6 +55,7 @@ fn four_spent(ledger: &[u8], i: usize) -> bool
 }
 
 // 02, R-2: with nothing enabled, a run is completed only if every live token is a result and none is deferred.
+// The caller lends the ledger's bytes (the C interface), so the number of its tokens goes beside them.
 pub fn ending(tables: &Tables, ledger: &[u8], used: usize) -> Outcome
     requires { used ≤ length ledger.now / token_width }
     ensures { EndsWith result tables.now (tokens used ledger.now) }

@@ -5,15 +5,18 @@ use Prim.Native.Nat.{ℕ, ◌/◌, ◌<◌}
 use mathlib.Core.Path.{◌≡◌, refl, sym, ap, ◌∙◌, subst}
 use mathlib.Core.List.{List}
 use native.Mathlib.Omega.{arith}
-use lib.ListN.{length}
+use lib.ListN.{length, length-map}
 use lib.IntN.{ℤ}
 use Rattle.record.specs.declared.tag.Tag.{Tag}
 use Rattle.record.specs.declared.array.NamedArray.{NamedArray}
 use Rattle.record.specs.declared.instruction.Instruction.{Instruction}
 use Rattle.record.specs.GraphRecords.{graph_of}
 use Rattle.record.specs.Arrays.{arrays_of}
-use Rattle.record.specs.TokensAndTags.{capacity_of}
+use Rattle.record.specs.TokensAndTags.{tokens, capacity_of}
+use Rattle.record.specs.TokensAndTags as Tokens
 use Rattle.record.specs.Widths.{token_width, cell_width}
+use Rattle.buffer.specs.Rows.{all_rows}
+use Rattle.buffer.proofs.Tables.{length_rows}
 use Rattle.machine.specs.Machine.{Machine, State, End, by_picks, run}
 use Rattle.machine.specs.Sequences.{log_of}
 use Rattle.machine.specs.Choosers.{Chooser, run_from, log_from}
@@ -29,8 +32,8 @@ use Rattle.rules.specs.Held.{held_in}
 use Rattle.rules.specs.Bounded.{and_bound, check_bounded, check_bound_logged}
 use Rattle.check_fields.proofs.Turns.{both-passed}
 use Rattle.checks.proofs.Passed.{passed_stores, passed_arrays}
-use Rattle.rules.specs.InstructionSet.{machine_of}
-use Rattle.rules.specs.Run.{picks_of, first_state}
+use Rattle.rules.specs.InstructionSet.{machine_of, effect_in}
+use Rattle.rules.specs.Run.{picks_of, token_held, first_state}
 use Rattle.abstraction.specs.Tables.{arrays_in}
 use Rattle.fire.specs.Running.{machine_over, state_in}
 use Rattle.start.specs.Begun.{machine_lent, Accepted, Begun}
@@ -39,6 +42,8 @@ use Rattle.start.proofs.Starting.{from_start, as_lent}
 use Rattle.engine.specs.declared.choice.Order.{Order}
 use Rattle.engine.specs.declared.choice.Order.TheVariants.{Oldest, Picks, Log, Free}
 use Rattle.engine.specs.Turns.{ByPicks, Plain, ByBound, BoundFits, end_of, fired_by, recorded, Proceeded, end_by, end_bounded, fired_bounded, end_from_inputs, fired_from_inputs}
+use Rattle.engine.specs.Keeping.{end_keeping, settled_by}
+use Rattle.engine.proofs.Keeping.{proceeded_plain}
 use Rattle.engine.proofs.Looping.{ended_at}
 
 -- ---- under picks
@@ -103,6 +108,24 @@ module _ (picks : List ℕ) (k : ℕ) where
     logged_by_bound Picks by = logged_plain Picks picks by.1 g tables ledger cells used budget k by.0
     logged_by_bound Log by = logged_plain Log picks by.1 g tables ledger cells used budget k by.0
     logged_by_bound (Free j) by = ap (λ (n : ℕ). fired_bounded n picks g tables ledger cells used budget) by.0
+
+-- of the loop by the plain operation
+pub ended_plain_by : (picks : List ℕ) (k : ℕ) (g : List Instruction) (tables ledger cells : List ℕ) (used budget : ℕ) {S : Type 0} (x : S) (order : Order) → ByBound order picks k → {r : Answer} {links flags ledger' cells' : List ℕ}
+    → Proceeded (settled_by order g tables ledger cells (end_keeping (λ y. effect_in) (λ y g table n τ a b. y) order picks g tables ledger cells used budget x).ended) r g tables links flags ledger' cells' used ledger cells
+    → EndedAt (end_bounded k picks g tables ledger cells used budget) r ledger cells ledger' cells'
+ended_plain_by picks k g tables ledger cells used budget x order by p = ended_by_bound picks k g tables ledger cells used budget order by (proceeded_plain x order picks g tables ledger cells used budget p)
+
+-- ---- from the inputs
+
+module _ (graph arrays inputs : List ℕ) {tables links flags ledger ledger₁ cells cells₁ : List ℕ} {used : ℕ} (b : Begun graph arrays inputs tables links flags ledger ledger₁ cells cells₁ used) where
+  -- as many tokens as inputs
+  pub used_all : used ≡ length inputs / token_width
+  unfolding first_state
+  used_all =
+      let first = ap (λ (s : State Tag ℤ). length s.tokens) b.state in
+      let now = length-map (tokens used ledger₁) token_held ∙ length_rows token_width Tokens.decode_token used ledger₁ in
+      let then = length-map (all_rows token_width Tokens.decode_token inputs) token_held ∙ length_rows token_width Tokens.decode_token (length inputs / token_width) inputs in
+      omega (arith, first, now, then)
 
 -- ---- that passed its checks
 

@@ -28,7 +28,6 @@ use Rattle.rules.specs.declared.answer.Answer.{Answer}
 use Rattle.rules.specs.InstructionSet.{machine_of}
 use Rattle.rules.specs.Run.{outcome_of}
 use Rattle.rules.specs.Held.{held_in}
-use Rattle.rules.proofs.Lawful.{lawful}
 use Rattle.store_flags.specs.Flags.{places, places_from, minus}
 use Rattle.store_flags.specs.Marks.{bit, Marked}
 use Rattle.store_enabled.specs.Enabled.{enabled_places}
@@ -39,8 +38,7 @@ use Rattle.abstraction.specs.States.{no_token, state_held}
 use Rattle.abstraction.specs.Tables.{Arities, arrays_in}
 use Rattle.fire_outputs.specs.Outputs.{cells_in}
 use Rattle.fire.proofs.Place.{on_ports}
-use Rattle.fire.proofs.Effects.{asked_below}
-use Rattle.fire.specs.Running.{machine_over, state_in, asked_in, Arrived, Running, Went, Prepared}
+use Rattle.fire.specs.Running.{machine_over, state_in, Arrived, Running, Went, Prepared}
 use Rattle.ending.specs.Endings.{EndsWith}
 use Rattle.held.specs.Deciding.{held_at, HeldDecided, HeldKept}
 use Rattle.held.proofs.Deciding.{places_one, among}
@@ -49,7 +47,8 @@ use Rattle.held.proofs.Free.{held_under, free_places}
 use Rattle.held.proofs.Fired.{went_later, flags_unspent}
 use Rattle.engine.specs.declared.choice.Order.{Order}
 use Rattle.engine.specs.declared.choice.Order.TheVariants.{Oldest, Picks, Log, Free}
-use Rattle.engine.specs.Turns.{HeldBeside, HeldBack, Holding, Bounding, Followed, TakesPlace, Ends, end_of, Proceeded, Settled, rests_there, as_it_was, end_by}
+use Rattle.engine.specs.Turns.{HeldBeside, HeldBack, Holding, Bounding, Followed, TakesPlace, Ends, Proceeded, Settled, rests_there, as_it_was}
+use Rattle.engine.specs.Keeping.{settled_by}
 use Rattle.engine.proofs.Choosing.{get_d_map, taken_there}
 
 -- ---- a choice
@@ -179,10 +178,6 @@ module _ (graph : List ℕ) {tables links flags ledger cells : List ℕ} {used :
       let d = b.kept.decided in
       held_under g [] 0 0 k tables links flags held ledger used [] ready.arities_right (on_ports g (tokens used ledger) now.arrived) now.matching d
 
-  -- what the rules ask for names cells of the store
-  pub below_here : (τ : Tag) → CellsBelow (length cells / cell_width) (asked_in g tables ledger cells used τ)
-  below_here τ = asked_below (machine_over g tables ledger cells) (lawful graph ready.passed (arrays_in tables) (length ledger / token_width) (length cells / cell_width)) (state_in ledger cells used) τ
-
   -- a firing of whatever effect
   module _ {τ : Tag} {e : Effect Refusal Tag ℤ} (below : CellsBelow (length cells / cell_width) e) {links' flags' ledger' cells' : List ℕ} {n : ℕ} (w : Went g τ e tables links' flags' ledger' cells' n used ledger cells) where
     pub fired_on : (k : ℕ) (nexts held marks : List ℕ) → Holding g k tables flags ledger used nexts held marks → Followed g k tables flags' ledger' used n nexts held marks
@@ -273,14 +268,20 @@ SettledBy Picks tables flags held ledger own r = r ≡ own
 SettledBy Log tables flags held ledger own r = r ≡ own
 SettledBy (Free k) tables flags held ledger own r = Settled tables flags held ledger own r
 
-module _ (source : List ℕ) (g : List Instruction) (tables links flags held ledger cells ledger₀ cells₀ : List ℕ) (start budget : ℕ) (nexts marks : List ℕ) (own r : Answer) (right : Arities g tables) where
-  as_it_ended : (e : End Refusal Tag ℤ) → Proceeded e own g tables links flags ledger cells start ledger₀ cells₀ → r ≡ own → Proceeded e r g tables links flags ledger cells start ledger₀ cells₀
-  as_it_ended e p h = subst (λ (a : Answer). Proceeded e a g tables links flags ledger cells start ledger₀ cells₀) (sym h) p
+pub none_settled : (order : Order) → ((k : ℕ) → order ≡ Free k → ⊥) → (tables flags held ledger : List ℕ) (own r : Answer) → r ≡ own → SettledBy order tables flags held ledger own r
+none_settled Oldest n tables flags held ledger own r h = h
+none_settled Picks n tables flags held ledger own r h = h
+none_settled Log n tables flags held ledger own r h = h
+none_settled (Free k) n tables flags held ledger own r h = absurd (n k refl)
 
-  pub settled_by : (order : Order) → Proceeded (end_of order source g tables ledger₀ cells₀ start budget) own g tables links flags ledger cells start ledger₀ cells₀
-      → Bounding order g tables flags ledger own.tokens nexts held marks → SettledBy order tables flags held ledger own r
-      → Proceeded (end_by order source g tables ledger₀ cells₀ start budget) r g tables links flags ledger cells start ledger₀ cells₀
-  settled_by Oldest p b h = as_it_ended _ p h
-  settled_by Picks p b h = as_it_ended _ p h
-  settled_by Log p b h = as_it_ended _ p h
-  settled_by (Free k) p b h = settled_end g k tables links flags held ledger cells ledger₀ cells₀ start _ own r right p b.kept.decided h
+module _ (g : List Instruction) (tables links flags held ledger cells ledger₀ cells₀ : List ℕ) (start : ℕ) (nexts marks : List ℕ) (own r : Answer) (right : Arities g tables) (e : End Refusal Tag ℤ)
+    (p : Proceeded e own g tables links flags ledger cells start ledger₀ cells₀) where
+  as_it_ended : r ≡ own → Proceeded e r g tables links flags ledger cells start ledger₀ cells₀
+  as_it_ended h = subst (λ (a : Answer). Proceeded e a g tables links flags ledger cells start ledger₀ cells₀) (sym h) p
+
+  pub settled_by_order : (order : Order) → Bounding order g tables flags ledger own.tokens nexts held marks → SettledBy order tables flags held ledger own r
+      → Proceeded (settled_by order g tables ledger₀ cells₀ e) r g tables links flags ledger cells start ledger₀ cells₀
+  settled_by_order Oldest b h = as_it_ended h
+  settled_by_order Picks b h = as_it_ended h
+  settled_by_order Log b h = as_it_ended h
+  settled_by_order (Free k) b h = settled_end g k tables links flags held ledger cells ledger₀ cells₀ start e own r right p b.kept.decided h

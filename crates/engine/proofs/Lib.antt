@@ -3,6 +3,7 @@ pub mod Choosing
 pub mod Places
 pub mod Turning
 pub mod Recording
+pub mod Keeping
 pub mod Looping
 pub mod Bounding
 pub mod Accepting

@@ -1,7 +1,9 @@
 -- The loop of a run, whoever chooses: what holds of ledger, cells and log after some firings, and that a turn, a refusal, the chooser's end and a spent budget end
 -- it as the machine's run ends. Assumes nothing.
+use Rattle.std.proofs.Common.{Ok}
 use Prim.Native.Nat.{ℕ, suc, ◌+◌, ◌-◌, ◌*◌, ◌/◌, ◌≤◌, ◌<◌}
 use mathlib.Core.Path.{◌≡◌, refl, sym, ap, ◌∙◌, subst}
+use mathlib.Core.Option.{Option, none, some}
 use mathlib.Core.List.{List, [], ◌∷◌, ◌++◌, append-nil, append_assoc}
 use native.Mathlib.Omega.{arith}
 use native.Mathlib.Numerals.{add-one}
@@ -9,40 +11,34 @@ use lib.ListN.{length, drop, length-append}
 use lib.IntN.{ℤ}
 use Rattle.record.specs.declared.tag.Tag.{Tag}
 use Rattle.record.specs.declared.instruction.Instruction.{Instruction}
+use Rattle.record.specs.GraphRecords.{graph_of}
 use Rattle.record.specs.TokensAndTags.{tokens, token_at}
 use Rattle.record.specs.Widths.{token_width, cell_width}
-use Rattle.machine.specs.Machine.{Machine, StateOf, State, Effect, Activity, Outcome, End, fire, fired, commit, by_picks, run_by, end}
-use Rattle.machine.specs.Choosers.{takes, Chooser, rests_at, run_from, log_from}
-use Rattle.machine.proofs.Choosers.{from_ends, from_fired, from_refused, from_zero, log_ends, log_fired, log_refused, log_zero}
+use Rattle.machine.specs.Machine.{Machine, StateOf, State, Effect, Operands, Activity, Outcome, End, refuse, fired, on_option, look, operands, commit, by_picks, run_by, end}
+use Rattle.machine.specs.Orders.{CellsBelow}
+use Rattle.machine.specs.Choosers.{Chosen, takes, Chooser, rests_at}
 use Rattle.fire_outputs.proofs.Laws.{rest_on}
 use Rattle.rules.specs.declared.answer.Refusal.{Refusal}
+use Rattle.rules.specs.declared.answer.Refusal.TheVariants.{SecondToken}
 use Rattle.rules.specs.declared.answer.Outcome as AnswerOutcome
 use Rattle.rules.specs.declared.answer.Answer.{Answer}
+use Rattle.rules.specs.Check.{check_graph}
 use Rattle.rules.specs.InstructionSet.{machine_of}
 use Rattle.rules.specs.Run.{outcome_of}
 use Rattle.abstraction.specs.Tables.{Arities, arrays_in}
 use Rattle.fire_outputs.specs.Outputs.{cells_in}
 use Rattle.fire.proofs.Place.{on_ports}
-use Rattle.fire.specs.Running.{machine_over, state_in, Running, Went, asked, asked_in}
-use Rattle.fire.proofs.Effects.{fires_asked}
+use Rattle.fire.specs.Running.{machine_over, state_in, Running, Went}
+use Rattle.fire.specs.Operating.{Asks, Keeps, asked_with, kept_with, asked_by, kept_by, AllSound}
 use Rattle.ending.specs.Endings.{RestsAs}
 use Rattle.ending.proofs.Laws.{rests_there_lem}
 use Rattle.start.specs.Ended.{EndedAt}
 use Rattle.start.proofs.Ending.{left}
 use Rattle.engine.specs.declared.choice.Order.{Order}
-use Rattle.engine.specs.Turns.{chooser_of, chooser_for, Advanced, Stops, by_choice, by_refusal, Halted, end_of, fired_by, log_noted, recorded, Proceeded}
+use Rattle.engine.specs.Turns.{chooser_of, chooser_for, Advanced, Stops, Halted, log_noted, recorded, Proceeded}
+use Rattle.engine.specs.Keeping.{Kept, kept_chosen, run_over, log_over, end_keeping, fired_keeping}
+use Rattle.engine.proofs.Keeping.{keeping_zero, logging_zero, keeping_fired, logging_fired, keeping_stopped, logging_stopped}
 use Rattle.engine.proofs.Recording.{recorded_none, length_recorded, noted_next}
-
--- ---- a turn that ends the run
-
-module _ (M : Machine) (c : Chooser M) (b f : ℕ) (s : StateOf M) (o : Outcome M.Refusal) where
-  stopped : Stops M s (c f s) (asked M s) o → run_from M c (suc b) f s ≡ end M o f s
-  stopped (by_choice e) = from_ends M c b f s o e
-  stopped (by_refusal a r e h q) = from_refused M c b f s a e r (fires_asked M s a.tag ∙ h) ∙ ap (λ (p : Outcome M.Refusal). end M p f s) (sym q)
-
-  logs_none : Stops M s (c f s) (asked M s) o → log_from M c (suc b) f s ≡ []
-  logs_none (by_choice e) = log_ends M c b f s o e
-  logs_none (by_refusal a r e h q) = log_refused M c b f s a e r (fires_asked M s a.tag ∙ h)
 
 -- a run with no budget left rests alike, whoever chose
 rest_is : (M : Machine) (f : ℕ) (s : StateOf M) → rests_at M f s ≡ run_by M (by_picks M) 0 [] f s
@@ -111,127 +107,182 @@ module _ (g : List Instruction) (ledger₀ cells₀ : List ℕ) (start : ℕ) (t
           let told = said g right (on_ports g (tokens used ledger) u.running.arrived) (arrays_in tables) (length ledger₀ / token_width) (length cells₀ / cell_width) (cells_in cells) (by_picks M) [] f in
           ends_here_lem (run_by M (by_picks M) 0 [] f s).outcome w (sym told) (h ∙ rest_is M f s ∙ rests_there_lem M (by_picks M) [] f s) u.running refl refl
 
--- ---- the loop
+-- what an activity asks for by a sound operation names cells of the store
+pub asked_below_by : (asks : Asks) → AllSound asks → (graph : List ℕ) → check_graph graph ≡ Ok tt → (tables ledger cells : List ℕ) (used : ℕ) (τ : Tag) → CellsBelow (length cells / cell_width) (asked_by asks (graph_of graph) tables ledger cells used τ)
+asked_below_by asks sound graph passed tables ledger cells used τ = go (let M = machine_over (graph_of graph) tables ledger cells in operands M (look M (state_in ledger cells used)) τ)
+  where
+    go : (q : Option (Operands ℤ)) → CellsBelow (length cells / cell_width) (on_option q (refuse SecondToken) (λ p. asks (graph_of graph) (arrays_in tables) (length cells / cell_width) τ p.left p.right))
+    go none = tt
+    go (some p) = (sound graph passed (arrays_in tables) (length cells / cell_width) τ p.left p.right).cells_below
 
--- after some firings, from a ledger and cells as lent
-pub record SoFar (g : List Instruction) (order : Order) (source ledger₀ cells₀ : List ℕ) (start budget : ℕ) (tables links flags ledger cells : List ℕ) (used firings : ℕ) : Type 0 where
-  pub within : firings ≤ budget
-  pub under : Underway g ledger₀ cells₀ start tables links flags ledger cells used
-  -- the run that is left to do
-  pub to_do : end_of order source g tables ledger₀ cells₀ start budget
-      ≡ run_from (machine_over g tables ledger₀ cells₀) (chooser_for order source g tables ledger₀ cells₀) (budget - firings) firings (state_in ledger cells used)
+-- ---- the loop, by any operation
 
--- the log after some firings, from one as lent
-pub record Noted (g : List Instruction) (order : Order) (source tables ledger₀ cells₀ log₀ : List ℕ) (start budget : ℕ) (ledger cells log : List ℕ) (used firings : ℕ) : Type 0 where
-  pub done : List Tag
-  pub count : length done ≡ firings
-  pub size : length log ≡ length log₀
-  pub written : log ≡ recorded done log₀
-  -- the log that is left to write
-  pub to_log : fired_by order source g tables ledger₀ cells₀ start budget
-      ≡ done ++ log_from (machine_over g tables ledger₀ cells₀) (chooser_for order source g tables ledger₀ cells₀) (budget - firings) firings (state_in ledger cells used)
+module _ {S : Type 0} (asks : S → Asks) (keeps : S → Keeps S) where
+  -- after some firings, from a ledger and cells as lent, with x₀ kept
+  pub record SoFar (g : List Instruction) (order : Order) (source ledger₀ cells₀ : List ℕ) (start budget : ℕ) (x₀ : S) (tables links flags ledger cells : List ℕ) (used firings : ℕ) (x : S) : Type 0 where
+    pub within : firings ≤ budget
+    pub under : Underway g ledger₀ cells₀ start tables links flags ledger cells used
+    -- the run that is left to do
+    pub to_do : end_keeping asks keeps order source g tables ledger₀ cells₀ start budget x₀ ≡ run_over asks keeps order source g tables ledger₀ cells₀ (budget - firings) firings x (state_in ledger cells used)
 
-module _ (g : List Instruction) (order : Order) (source ledger₀ cells₀ : List ℕ) (start budget : ℕ) (tables : List ℕ) where
-  abbrev M₀ : Machine
-  M₀ = machine_over g tables ledger₀ cells₀
+  -- the log after some firings, from one as lent
+  pub record Noted (g : List Instruction) (order : Order) (source tables ledger₀ cells₀ log₀ : List ℕ) (start budget : ℕ) (x₀ : S) (ledger cells log : List ℕ) (used firings : ℕ) (x : S) : Type 0 where
+    pub done : List Tag
+    pub count : length done ≡ firings
+    pub size : length log ≡ length log₀
+    pub written : log ≡ recorded done log₀
+    -- the log that is left to write
+    pub to_log : fired_keeping asks keeps order source g tables ledger₀ cells₀ start budget x₀ ≡ done ++ log_over asks keeps order source g tables ledger₀ cells₀ (budget - firings) firings x (state_in ledger cells used)
 
-  abbrev c₀ : Chooser (machine_over g tables ledger₀ cells₀)
-  c₀ = chooser_for order source g tables ledger₀ cells₀
+  module _ (g : List Instruction) (order : Order) (source ledger₀ cells₀ : List ℕ) (start budget : ℕ) (x₀ : S) (tables : List ℕ) where
+    abbrev M₀ : Machine
+    M₀ = machine_over g tables ledger₀ cells₀
 
-  all_left : budget ≡ budget - 0
-  all_left = omega arith
+    abbrev c₀ : Chooser (machine_over g tables ledger₀ cells₀)
+    c₀ = chooser_for order source g tables ledger₀ cells₀
 
-  pub begun : {links flags : List ℕ} → Running g tables links flags ledger₀ cells₀ start → SoFar g order source ledger₀ cells₀ start budget tables links flags ledger₀ cells₀ start 0
-  begun r = record {
-    within = omega arith;
-    under = none_fired g ledger₀ cells₀ start tables r;
-    to_do = ap (λ (b : ℕ). run_from M₀ c₀ b 0 (state_in ledger₀ cells₀ start)) all_left;
-  }
+    abbrev a₀ : S → Tag → ℤ → ℤ → Effect Refusal Tag ℤ
+    a₀ y = asks y g (arrays_in tables) (length cells₀ / cell_width)
 
-  pub noted_none : (log₀ : List ℕ) → Noted g order source tables ledger₀ cells₀ log₀ start budget ledger₀ cells₀ log₀ start 0
-  noted_none log₀ = record {
-    done = [];
-    count = refl;
-    size = refl;
-    written = sym (recorded_none log₀);
-    to_log = ap (λ (b : ℕ). log_from M₀ c₀ b 0 (state_in ledger₀ cells₀ start)) all_left;
-  }
+    abbrev k₀ : S → Tag → ℤ → ℤ → S
+    k₀ y = keeps y g (arrays_in tables) (length cells₀ / cell_width)
 
-  module _ {links flags ledger cells : List ℕ} {used firings : ℕ} (so : SoFar g order source ledger₀ cells₀ start budget tables links flags ledger cells used firings) where
-    abbrev s : State Tag ℤ
-    s = state_in ledger cells used
+    abbrev runs : (b f : ℕ) → S → State Tag ℤ → Kept S Refusal Tag ℤ
+    runs = run_over asks keeps order source g tables ledger₀ cells₀
 
-    to_do_lem : (b : ℕ) → budget - firings ≡ b → end_of order source g tables ledger₀ cells₀ start budget ≡ run_from M₀ c₀ b firings s
-    to_do_lem b e = so.to_do ∙ ap (λ (n : ℕ). run_from M₀ c₀ n firings s) e
+    abbrev logs : (b f : ℕ) → S → State Tag ℤ → List Tag
+    logs = log_over asks keeps order source g tables ledger₀ cells₀
 
-    -- a turn that fired
-    module _ (h : firings < budget) {links' flags' ledger' cells' : List ℕ} {n place : ℕ}
-        (a : Advanced g (chooser_for order source g tables ledger cells firings (state_in ledger cells used)) (asked_in g tables ledger cells used) place tables links' flags' ledger' cells' n used ledger cells) where
-      abbrev its : Activity Tag
-      its = record { place = place; tag = (token_at ledger' place).tag }
+    abbrev whole_run : Kept S Refusal Tag ℤ
+    whole_run = end_keeping asks keeps order source g tables ledger₀ cells₀ start budget x₀
 
-      took : c₀ firings s ≡ takes its
-      took = as_lent g ledger₀ cells₀ start tables so.under (λ p q. chooser_of order source g (arrays_in tables) p q firings s ≡ takes its) a.taken
+    abbrev whole_log : List Tag
+    whole_log = fired_keeping asks keeps order source g tables ledger₀ cells₀ start budget x₀
 
-      stepped : fire M₀ s (token_at ledger' place).tag ≡ fired (state_in ledger' cells' n)
-      stepped =
-          let τ = (token_at ledger' place).tag in
-          fires_asked M₀ s τ ∙ as_lent g ledger₀ cells₀ start tables so.under (λ p q. commit (machine_of g (arrays_in tables) p q) s τ (asked (machine_of g (arrays_in tables) p q) s τ) ≡ fired (state_in ledger' cells' n)) a.went.step
+    all_left : budget ≡ budget - 0
+    all_left = omega arith
 
-      pub advanced : SoFar g order source ledger₀ cells₀ start budget tables links' flags' ledger' cells' n (firings + 1)
-      advanced = record {
-        within = omega arith;
-        under = went_on g ledger₀ cells₀ start tables so.under a.went;
-        to_do = rw (add-one firings) (to_do_lem (suc (budget - suc firings)) (omega arith) ∙ from_fired M₀ c₀ (budget - suc firings) firings s its took (state_in ledger' cells' n) stepped);
-      }
+    pub begun : {links flags : List ℕ} → Running g tables links flags ledger₀ cells₀ start → SoFar g order source ledger₀ cells₀ start budget x₀ tables links flags ledger₀ cells₀ start 0 x₀
+    begun r = record {
+      within = omega arith;
+      under = none_fired g ledger₀ cells₀ start tables r;
+      to_do = ap (λ (b : ℕ). runs b 0 x₀ (state_in ledger₀ cells₀ start)) all_left;
+    }
 
-    stops_there : {o : AnswerOutcome.Outcome} {links' flags' ledger' cells' : List ℕ}
-        → (a : Halted o g (chooser_for order source g tables ledger cells firings (state_in ledger cells used)) (asked_in g tables ledger cells used) tables links' flags' ledger' cells' used ledger cells) → Stops M₀ s (c₀ firings s) (asked M₀ s) a.outcome
-    stops_there a = as_lent g ledger₀ cells₀ start tables so.under (λ p q. Stops (machine_of g (arrays_in tables) p q) s (chooser_of order source g (arrays_in tables) p q firings s) (asked (machine_of g (arrays_in tables) p q) s) a.outcome) a.stops
+    pub noted_none : (log₀ : List ℕ) → Noted g order source tables ledger₀ cells₀ log₀ start budget x₀ ledger₀ cells₀ log₀ start 0 x₀
+    noted_none log₀ = record {
+      done = [];
+      count = refl;
+      size = refl;
+      written = sym (recorded_none log₀);
+      to_log = ap (λ (b : ℕ). logs b 0 x₀ (state_in ledger₀ cells₀ start)) all_left;
+    }
 
-    -- a turn that ended the run
-    pub halted : firings < budget → {o : AnswerOutcome.Outcome} {links' flags' ledger' cells' : List ℕ}
-        → Halted o g (chooser_for order source g tables ledger cells firings (state_in ledger cells used)) (asked_in g tables ledger cells used) tables links' flags' ledger' cells' used ledger cells
-        → Proceeded (end_of order source g tables ledger₀ cells₀ start budget) (record { outcome = o; firings = firings; tokens = used }) g tables links' flags' ledger' cells' start ledger₀ cells₀
-    halted h {o} a =
-        ends_here_lem g ledger₀ cells₀ start tables so.under firings a.outcome o a.told
-        (to_do_lem (suc (budget - suc firings)) (omega arith) ∙ stopped M₀ c₀ (budget - suc firings) firings s a.outcome (stops_there a)) a.running a.same_ledger a.same_cells
+    module _ {links flags ledger cells : List ℕ} {used firings : ℕ} {x : S} (so : SoFar g order source ledger₀ cells₀ start budget x₀ tables links flags ledger cells used firings x) where
+      abbrev s : State Tag ℤ
+      s = state_in ledger cells used
 
-    -- the budget is spent
-    pub finished : budget ≤ firings → Arities g tables → (w : AnswerOutcome.Outcome) → RestsAs w tables (tokens used ledger)
-        → Proceeded (end_of order source g tables ledger₀ cells₀ start budget) (record { outcome = w; firings = firings; tokens = used }) g tables links flags ledger cells start ledger₀ cells₀
-    finished h right w said = rests_here g ledger₀ cells₀ start tables so.under firings right w said (to_do_lem 0 (omega arith) ∙ from_zero M₀ c₀ firings s)
+      abbrev chosen : Chosen Refusal Tag
+      chosen = chooser_for order source g tables ledger cells firings (state_in ledger cells used)
 
-    -- ---- the log
+      abbrev its_asks : Tag → Effect Refusal Tag ℤ
+      its_asks = asked_by (asks x) g tables ledger cells used
 
-    module _ {log₀ log : List ℕ} (no : Noted g order source tables ledger₀ cells₀ log₀ start budget ledger cells log used firings) where
-      to_log_lem : (b : ℕ) (τs : List Tag) → budget - firings ≡ b → log_from M₀ c₀ b firings s ≡ τs → fired_by order source g tables ledger₀ cells₀ start budget ≡ no.done ++ τs
-      to_log_lem b τs e h = no.to_log ∙ ap (λ (n : ℕ). no.done ++ log_from M₀ c₀ n firings s) e ∙ ap (λ (l : List Tag). no.done ++ l) h
+      abbrev its_keeps : Tag → S
+      its_keeps = kept_by x (keeps x) g tables ledger cells used
 
-      pub noted_on : (h : firings < budget) {links' flags' ledger' cells' : List ℕ} {n place : ℕ}
-          → Advanced g (chooser_for order source g tables ledger cells firings (state_in ledger cells used)) (asked_in g tables ledger cells used) place tables links' flags' ledger' cells' n used ledger cells
-          → (log' : List ℕ) → log' ≡ log_noted log firings (token_at ledger' place).tag → Noted g order source tables ledger₀ cells₀ log₀ start budget ledger' cells' log' n (firings + 1)
-      noted_on h {ledger' = ledger'} {cells' = cells'} {n = n} {place = place} a log' w =
-          let τ = (token_at ledger' place).tag in
-          let b = budget - suc firings in
-          let later = log_from M₀ c₀ b (suc firings) (state_in ledger' cells' n) in
-          let step : log_from M₀ c₀ (suc b) firings s ≡ τ ∷ later = log_fired M₀ c₀ b firings s (record { place = place; tag = τ }) (took h a) (state_in ledger' cells' n) (stepped h a) in
-          let all : log' ≡ recorded (no.done ++ τ ∷ []) log₀ = w ∙ (λ i. log_noted (no.written i) (sym no.count i) τ) ∙ noted_next no.done log₀ τ in
-          record {
-            done = no.done ++ τ ∷ [];
-            count = omega (arith, length-append no.done (τ ∷ []), no.count);
-            size = ap length all ∙ length_recorded (no.done ++ τ ∷ []) log₀;
-            written = all;
-            to_log = rw (add-one firings) (to_log_lem (suc b) (τ ∷ later) (omega arith) step ∙ sym (append_assoc no.done (τ ∷ []) later));
-          }
+      to_do_lem : (b : ℕ) → budget - firings ≡ b → whole_run ≡ runs b firings x s
+      to_do_lem b e = so.to_do ∙ ap (λ (n : ℕ). runs n firings x s) e
 
-      no_more : fired_by order source g tables ledger₀ cells₀ start budget ≡ no.done ++ [] → log ≡ recorded (fired_by order source g tables ledger₀ cells₀ start budget) log₀
-      no_more e = no.written ∙ ap (λ (l : List Tag). recorded l log₀) (sym (e ∙ append-nil no.done))
+      -- the log that is left to write
+      module _ {log₀ log : List ℕ} (so_log : Noted g order source tables ledger₀ cells₀ log₀ start budget x₀ ledger cells log used firings x) where
+        to_log_lem : (b : ℕ) (τs : List Tag) → budget - firings ≡ b → logs b firings x s ≡ τs → whole_log ≡ so_log.done ++ τs
+        to_log_lem b τs e l = so_log.to_log ∙ ap (λ (n : ℕ). so_log.done ++ logs n firings x s) e ∙ ap (λ (l : List Tag). so_log.done ++ l) l
 
-      pub noted_halted : firings < budget → {o : AnswerOutcome.Outcome} {links' flags' ledger' cells' : List ℕ}
-          → Halted o g (chooser_for order source g tables ledger cells firings (state_in ledger cells used)) (asked_in g tables ledger cells used) tables links' flags' ledger' cells' used ledger cells
-          → log ≡ recorded (fired_by order source g tables ledger₀ cells₀ start budget) log₀
-      noted_halted h a = no_more (to_log_lem (suc (budget - suc firings)) [] (omega arith) (logs_none M₀ c₀ (budget - suc firings) firings s a.outcome (stops_there a)))
+        no_more : whole_log ≡ so_log.done ++ [] → log ≡ recorded whole_log log₀
+        no_more e = so_log.written ∙ ap (λ (l : List Tag). recorded l log₀) (sym (e ∙ append-nil so_log.done))
 
-      pub noted_finished : budget ≤ firings → log ≡ recorded (fired_by order source g tables ledger₀ cells₀ start budget) log₀
-      noted_finished h = no_more (to_log_lem 0 [] (omega arith) (log_zero M₀ c₀ firings s))
+      -- a turn that fired; y is kept after it
+      module _ (h : firings < budget) {links' flags' ledger' cells' : List ℕ} {n place : ℕ} (a : Advanced g chosen its_asks place tables links' flags' ledger' cells' n used ledger cells)
+          {y : S} (kept : y ≡ kept_chosen chosen x its_keeps) where
+        abbrev its : Activity Tag
+        its = record { place = place; tag = (token_at ledger' place).tag }
+
+        took : c₀ firings s ≡ takes its
+        took = as_lent g ledger₀ cells₀ start tables so.under (λ p q. chooser_of order source g (arrays_in tables) p q firings s ≡ takes its) a.taken
+
+        stepped : commit M₀ s (token_at ledger' place).tag (asked_with M₀ (a₀ x) s (token_at ledger' place).tag) ≡ fired (state_in ledger' cells' n)
+        stepped =
+            let τ = (token_at ledger' place).tag in
+            as_lent g ledger₀ cells₀ start tables so.under (λ p q. commit (machine_of g (arrays_in tables) p q) s τ (asked_with (machine_of g (arrays_in tables) p q) (asks x g (arrays_in tables) q) s τ) ≡ fired (state_in ledger' cells' n)) a.went.step
+
+        pub kept_after : y ≡ its_keeps (token_at ledger' place).tag
+        kept_after = kept ∙ ap (λ (c : Chosen Refusal Tag). kept_chosen c x its_keeps) a.taken
+
+        keeps_there : y ≡ kept_with M₀ x (k₀ x) s (token_at ledger' place).tag
+        keeps_there =
+            let τ = (token_at ledger' place).tag in
+            as_lent g ledger₀ cells₀ start tables so.under (λ p q. y ≡ kept_with (machine_of g (arrays_in tables) p q) x (keeps x g (arrays_in tables) q) s τ) kept_after
+
+        pub advanced : SoFar g order source ledger₀ cells₀ start budget x₀ tables links' flags' ledger' cells' n (firings + 1) y
+        advanced = record {
+          within = omega arith;
+          under = went_on g ledger₀ cells₀ start tables so.under a.went;
+          to_do = rw (add-one firings) (to_do_lem (suc (budget - suc firings)) (omega arith)
+              ∙ keeping_fired M₀ a₀ k₀ c₀ firings x s (budget - suc firings) its took (state_in ledger' cells' n) stepped
+              ∙ ap (λ (z : S). runs (budget - suc firings) (suc firings) z (state_in ledger' cells' n)) (sym keeps_there));
+        }
+
+        pub noted_on : {log₀ log : List ℕ} → Noted g order source tables ledger₀ cells₀ log₀ start budget x₀ ledger cells log used firings x
+            → (log' : List ℕ) → log' ≡ log_noted log firings (token_at ledger' place).tag → Noted g order source tables ledger₀ cells₀ log₀ start budget x₀ ledger' cells' log' n (firings + 1) y
+        noted_on {log₀} so_log log' w =
+            let τ = (token_at ledger' place).tag in
+            let b = budget - suc firings in
+            let later = logs b (suc firings) y (state_in ledger' cells' n) in
+            let step : logs (suc b) firings x s ≡ τ ∷ later =
+            logging_fired M₀ a₀ k₀ c₀ firings x s b its took (state_in ledger' cells' n) stepped
+            ∙ ap (λ (z : S). τ ∷ logs b (suc firings) z (state_in ledger' cells' n)) (sym keeps_there) in
+            let all : log' ≡ recorded (so_log.done ++ τ ∷ []) log₀ = w ∙ (λ i. log_noted (so_log.written i) (sym so_log.count i) τ) ∙ noted_next so_log.done log₀ τ in
+            record {
+              done = so_log.done ++ τ ∷ [];
+              count = omega (arith, length-append so_log.done (τ ∷ []), so_log.count);
+              size = ap length all ∙ length_recorded (so_log.done ++ τ ∷ []) log₀;
+              written = all;
+              to_log = rw (add-one firings) (to_log_lem so_log (suc b) (τ ∷ later) (omega arith) step ∙ sym (append_assoc so_log.done (τ ∷ []) later));
+            }
+
+      -- a turn that ended the run
+      module _ (h : firings < budget) {o : AnswerOutcome.Outcome} {links' flags' ledger' cells' : List ℕ} (a : Halted o g chosen its_asks tables links' flags' ledger' cells' used ledger cells) where
+        stops_there : Stops M₀ s (c₀ firings s) (asked_with M₀ (a₀ x) s) a.outcome
+        stops_there =
+            as_lent g ledger₀ cells₀ start tables so.under
+            (λ p q. Stops (machine_of g (arrays_in tables) p q) s (chooser_of order source g (arrays_in tables) p q firings s) (asked_with (machine_of g (arrays_in tables) p q) (asks x g (arrays_in tables) q) s) a.outcome) a.stops
+
+        ends_so : whole_run ≡ record { kept = kept_chosen (c₀ firings s) x (kept_with M₀ x (k₀ x) s); ended = end M₀ a.outcome firings s }
+        ends_so = to_do_lem (suc (budget - suc firings)) (omega arith) ∙ keeping_stopped M₀ a₀ k₀ c₀ firings x s (budget - suc firings) a.outcome stops_there
+
+        pub halted : Proceeded whole_run.ended (record { outcome = o; firings = firings; tokens = used }) g tables links' flags' ledger' cells' start ledger₀ cells₀
+        halted = ends_here_lem g ledger₀ cells₀ start tables so.under firings a.outcome o a.told (ap (λ (z : Kept S Refusal Tag ℤ). z.ended) ends_so) a.running a.same_ledger a.same_cells
+
+        pub halted_kept : {y : S} → y ≡ kept_chosen chosen x its_keeps → y ≡ whole_run.kept
+        halted_kept {y} kept =
+            as_lent g ledger₀ cells₀ start tables so.under (λ p q. y ≡ kept_chosen (chooser_of order source g (arrays_in tables) p q firings s) x (kept_with (machine_of g (arrays_in tables) p q) x (keeps x g (arrays_in tables) q) s)) kept
+            ∙ sym (ap (λ (z : Kept S Refusal Tag ℤ). z.kept) ends_so)
+
+        pub noted_halted : {log₀ log : List ℕ} → Noted g order source tables ledger₀ cells₀ log₀ start budget x₀ ledger cells log used firings x → log ≡ recorded whole_log log₀
+        noted_halted so_log = no_more so_log (to_log_lem so_log (suc (budget - suc firings)) [] (omega arith) (logging_stopped M₀ a₀ k₀ c₀ firings x s (budget - suc firings) a.outcome stops_there))
+
+      -- the budget is spent
+      module _ (h : budget ≤ firings) where
+        rests_so : whole_run ≡ record { kept = x; ended = rests_at M₀ firings s }
+        rests_so = to_do_lem 0 (omega arith) ∙ keeping_zero M₀ a₀ k₀ c₀ firings x s
+
+        pub finished : Arities g tables → (w : AnswerOutcome.Outcome) → RestsAs w tables (tokens used ledger)
+            → Proceeded whole_run.ended (record { outcome = w; firings = firings; tokens = used }) g tables links flags ledger cells start ledger₀ cells₀
+        finished right w said = rests_here g ledger₀ cells₀ start tables so.under firings right w said (ap (λ (z : Kept S Refusal Tag ℤ). z.ended) rests_so)
+
+        pub finished_kept : x ≡ whole_run.kept
+        finished_kept = sym (ap (λ (z : Kept S Refusal Tag ℤ). z.kept) rests_so)
+
+        pub noted_finished : {log₀ log : List ℕ} → Noted g order source tables ledger₀ cells₀ log₀ start budget x₀ ledger cells log used firings x → log ≡ recorded whole_log log₀
+        noted_finished so_log = no_more so_log (to_log_lem so_log 0 [] (omega arith) (logging_zero M₀ a₀ k₀ c₀ firings x s))

@@ -14,9 +14,9 @@ use Rattle.record.specs.TokensAndTags.{tokens, token_at}
 use Rattle.record.specs.TokensAndTags as Tokens
 use Rattle.record.specs.Widths.{token_width, cell_width}
 use Rattle.buffer.proofs.Tables.{length_rows, get_d_rows}
-use Rattle.machine.specs.Machine.{Key, Token, Effect}
+use Rattle.machine.specs.Machine.{Key, Token, Effect, Activity, Outcome}
 use Rattle.machine.specs.Machine as Machines
-use Rattle.machine.specs.Choosers.{Chosen, takes}
+use Rattle.machine.specs.Choosers.{Chosen, takes, ends}
 use Rattle.rules.specs.declared.answer.Refusal.{Refusal}
 use Rattle.rules.specs.declared.answer.Outcome as AnswerOutcome
 use Rattle.rules.specs.declared.answer.Outcome.TheVariants as Outcomes
@@ -27,6 +27,7 @@ use Rattle.fire_outputs.specs.Outputs.{cells_in}
 use Rattle.fire.specs.Running.{machine_over, state_in, Running, Went, Stopped, Prepared}
 use Rattle.engine.specs.declared.choice.Order.{Order}
 use Rattle.engine.specs.Turns.{chooser_for, HeldBack, Chooses, ChosenAs, TakesPlace, Ends, Advanced, by_choice, by_refusal, Halted}
+use Rattle.engine.specs.Keeping.{kept_chosen}
 use Rattle.engine.proofs.Choosing.{get_d_map}
 use Rattle.engine.proofs.Places.{keys_kept}
 
@@ -42,6 +43,14 @@ pub chosen_now : (graph : List ℕ) (order : Order) (source : List ℕ) (f : ℕ
     → Chooses r (chooser_for order source (graph_of graph) tables ledger cells f (state_in ledger cells used)) tables ledger used
 chosen_now graph order source f r held {tables = tables} {ledger = ledger} {cells = cells} said ready now back =
     said (graph_of graph) ready.arities_right now.arrived back (arrays_in tables) (length ledger / token_width) (length cells / cell_width) (cells_in cells)
+
+-- what is kept, by what was chosen
+module _ {S : Type 0} {chosen : Chosen Refusal Tag} (x : S) (keeps : Tag → S) where
+  pub kept_ended : {o : Outcome Refusal} → chosen ≡ ends o → x ≡ kept_chosen chosen x keeps
+  kept_ended e = sym (ap (λ (c : Chosen Refusal Tag). kept_chosen c x keeps) e)
+
+  pub kept_taken : {a : Activity Tag} → chosen ≡ takes a → {y : S} → y ≡ keeps a.tag → y ≡ kept_chosen chosen x keeps
+  kept_taken e k = k ∙ sym (ap (λ (c : Chosen Refusal Tag). kept_chosen c x keeps) e)
 
 module _ {g : List Instruction} {chosen : Chosen Refusal Tag} (asks : Tag → Effect Refusal Tag ℤ) {tables ledger cells : List ℕ} {used : ℕ} where
   pub turn_ended : {links flags : List ℕ} {o : AnswerOutcome.Outcome} → Ends o chosen → Running g tables links flags ledger cells used → Halted o g chosen asks tables links flags ledger cells used ledger cells

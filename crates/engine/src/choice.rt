@@ -11,11 +11,12 @@ ghost use Rattle.store_flags.specs.Flags.{places, minus, Under};
 ghost use Rattle.engine.specs.Turns.{ByPicks, Plain, ByBound, Flagged, HeldBeside, ChosenAs};
 ghost use Rattle.engine.specs.declared.choice.Order.TheVariants.{Oldest, Picks, Log, Free};
 
+use record::codec::Decode;
 use record::tag::Tag;
-use record::{log, pick, token};
+use record::token::Token;
+use record::{log, pick};
 use rules::answer::{Outcome, Refusal};
-use store_chains::Links;
-use store_enabled::Tables;
+use store_enabled::{Store, Tables};
 use store_flags::Flags;
 
 // How the activity of a turn is chosen: the first of all, by picks, by the records of a log, or by picks among those that a
@@ -36,7 +37,8 @@ fn number_of(pick: usize, e: usize) -> usize
     if pick < e { pick } else { pick % e }
 }
 
-// The first of the enabled activities.
+// The first of the enabled activities. `Flagged` speaks of the ledger's bytes, which are the caller's, and so is no invariant of the
+// flags; for the same reason the number of the ledger's tokens goes beside it.
 fn oldest(tables: &Tables, flags: &Flags, ledger: &[u8], used: usize) -> Result<usize, Outcome>
     requires { Flagged tables.now flags.now ledger.now used }
     ensures { (flags held : List ℕ) → ChosenAs result Oldest [] 0 tables.now flags held ledger.now used }
@@ -49,6 +51,7 @@ fn oldest(tables: &Tables, flags: &Flags, ledger: &[u8], used: usize) -> Result<
 }
 
 // The one that the pick of this turn takes.
+#[tactic(auto, unfolding(rules::specs::Run::picks_of))]
 fn by_pick(
     tables: &Tables,
     flags: &Flags,
@@ -82,46 +85,39 @@ fn name_at(log: &[u8], i: usize) -> Option<Tag>
 // before any search.
 fn place_named(
     tables: &Tables,
-    links: &Links,
-    flags: &Flags,
+    store: &Store,
     ledger: &[u8],
     used: usize,
     tag: Tag,
 ) -> Option<usize>
-    requires { Matching tables.now links.now flags.now ledger.now used }
+    requires { Matching tables.now store.now.links store.now.flags ledger.now used }
     ensures { (result ≡ enabled_at tables.now (tokens used ledger.now) tag) × FoundWithin result used }
 {
-    if !flags.is_empty() {
-        let first = store::enabled_at(flags, 0);
-        let t = token::token_at(ledger, first);
+    if !store.flags.is_empty() {
+        let first = store::enabled_at(&store.flags, 0);
+        let t = Token::read(ledger, first);
         if t.tag == tag {
             return Some(first);
         }
     }
-    store::enabled_by_tag(tables, links, ledger, used, tag)
+    store::enabled_by_tag(tables, store, ledger, used, tag)
 }
 
 // The one that the record of this turn names, if it is enabled.
 fn by_record(
     tables: &Tables,
-    links: &Links,
-    flags: &Flags,
+    store: &Store,
     ledger: &[u8],
     used: usize,
     log: &[u8],
     firings: usize,
 ) -> Result<usize, Outcome>
-    requires { Matching tables.now links.now flags.now ledger.now used }
+    requires { Matching tables.now store.now.links store.now.flags ledger.now used }
     ensures { (flags held : List ℕ) → ChosenAs result Log log.now firings tables.now flags held ledger.now used }
 {
     let not_enabled = Outcome::Refused(Refusal::NotEnabled, firings);
-    let Some(tag) = name_at(log, firings) else {
-        return Err(not_enabled);
-    };
-    let Some(place) = place_named(tables, links, flags, ledger, used, tag) else {
-        return Err(not_enabled);
-    };
-    Ok(place)
+    let tag = name_at(log, firings).ok_or(not_enabled)?;
+    place_named(tables, store, ledger, used, tag).ok_or(not_enabled)
 }
 
 // The place of number k of the activities that are not held back. Where none is, they are all that are enabled.
@@ -178,26 +174,34 @@ fn by_free(
 }
 
 // The choice of a turn: the place of an enabled activity, unless the run is at its end. An order that holds nothing back asks for no
-// flags of held ones.
+// flags of held ones. A closure in place of the order would be no plainer:
+// the loop and the laws ask the order whether it holds anything back.
 pub fn choose(
     order: Order,
     source: &[u8],
     firings: usize,
     tables: &Tables,
-    links: &Links,
-    flags: &Flags,
+    store: &Store,
     held: Option<&Flags>,
     ledger: &[u8],
     used: usize,
 ) -> Result<usize, Outcome>
-    requires { Matching tables.now links.now flags.now ledger.now used × HeldBeside order flags.now (option_copied held) }
-    ensures { ChosenAs result order source.now firings tables.now flags.now (unwrap_or (option_copied held.entry) []) ledger.now used }
+    requires { Matching tables.now store.now.links store.now.flags ledger.now used × HeldBeside order store.now.flags (option_copied held) }
+    ensures { ChosenAs result order source.now firings tables.now store.now.flags (unwrap_or (option_copied held.entry) []) ledger.now used }
 {
     match order {
-        Order::Oldest => oldest(tables, flags, ledger, used),
-        Order::Picks => by_pick(tables, flags, ledger, used, source, firings),
-        Order::Log => by_record(tables, links, flags, ledger, used, source, firings),
-        Order::Free(_) => by_free(tables, flags, held.unwrap(), ledger, used, source, firings),
+        Order::Oldest => oldest(tables, &store.flags, ledger, used),
+        Order::Picks => by_pick(tables, &store.flags, ledger, used, source, firings),
+        Order::Log => by_record(tables, store, ledger, used, source, firings),
+        Order::Free(_) => by_free(
+            tables,
+            &store.flags,
+            held.unwrap(),
+            ledger,
+            used,
+            source,
+            firings,
+        ),
     }
 }
 
@@ -212,7 +216,7 @@ fn order_of(picks: &[u8]) -> Order
     }
 }
 
-// The order of a run by picks, with a bound or, where it is 0, without one.
+// The order of a run by picks. A bound of 0 is none, as C lends it; from here on the order says whether there is one.
 pub fn order_under(picks: &[u8], bound: usize) -> Order
     ensures { ByBound result picks.now bound }
 {

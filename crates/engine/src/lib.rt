@@ -18,44 +18,16 @@ ghost use Rattle.engine.specs.Resumed.{resume_lent_checked, LentToResume, resume
 ghost use Rattle.engine.specs.Turns.{recorded, end_bounded, fired_bounded, end_from_inputs, fired_from_inputs};
 
 use crate::turns::Going;
-use checks::{bound, graph, stores};
+use checks::bound::Bounded;
+use checks::graph;
+use checks::stores::{Logged, Stores};
+use fire::Plain;
 use record::cell;
 use rules::answer;
 use rules::answer::{Answer, Fault, Refusal};
-use store_chains::Links;
-use store_enabled::Tables;
-use store_flags::Flags;
+use store_enabled::Store;
 
-// A run goes on from a state under picks, with a bound or, where it is 0, without one.
-fn go_on(
-    graph: &[u8],
-    tables: &Tables,
-    picks: &[u8],
-    bound: usize,
-    links: &mut Links,
-    flags: &mut Flags,
-    ledger: &mut [u8],
-    cells: &mut [u8],
-    log: &mut [u8],
-    going: Going,
-) -> Answer
-    requires { Prepared graph.now tables.now × Running (graph_of graph.now) tables.now links.old flags.old ledger.old cells.old going.used × (bound < 65536) }
-    ensures ended_at { EndedAt
-        (end_bounded bound picks.now (graph_of graph.now) tables.now ledger.old cells.old
-        going.used going.budget) result ledger.old cells.old ledger.new cells.new }
-    ensures log_after { log.new
-        ≡ recorded
-        (fired_bounded bound picks.now (graph_of graph.now) tables.now ledger.old cells.old
-        going.used going.budget) log.old }
-{
-    let order = choice::order_under(picks, bound);
-    turns::proceed(
-        graph, tables, order, picks, links, flags, ledger, cells, log, going,
-    )
-}
-
-// A run that passed every check: all cells are set absent, the inputs go into the ledger, and it
-// proceeds.
+// A run that passed every check. The parameters of a run are those of the C interface, in its order, down to where its arrays are made.
 fn accepted(
     graph: &[u8],
     arrays: &[u8],
@@ -76,30 +48,9 @@ fn accepted(
         (fired_from_inputs bound picks.now budget graph.now arrays.now inputs.now ledger.old
         cells.old) log.old }
 {
-    let mut tables = [0u16; store_enabled::TABLES_LENGTH];
-    let mut links = [0u16; store_chains::LENGTH];
-    let mut flags = Flags::new();
-    let used = start::begin(
-        graph,
-        arrays,
-        inputs,
-        &mut tables,
-        &mut links,
-        &mut flags,
-        ledger,
-        cells,
-    );
-    go_on(
-        graph,
-        &tables,
-        picks,
-        bound,
-        &mut links,
-        &mut flags,
-        ledger,
-        cells,
-        log,
-        Going { used, budget },
+    let order = choice::order_under(picks, bound);
+    turns::from_inputs(
+        graph, arrays, inputs, order, picks, budget, &mut Plain, ledger, cells, log,
     )
 }
 
@@ -115,11 +66,21 @@ fn check_lent(
 ) -> Result<(), Fault>
     ensures { result ≡ resume_lent_checked graph.now arrays.now picks bound ledger cells }
 {
-    let of_stores = bound::check(stores::check(0, picks, ledger, cells), bound);
-    checks::check_lent(graph, arrays, of_stores, cells / cell::WIDTH)
+    let stores = Stores {
+        inputs: 0,
+        picks,
+        ledger,
+        cells,
+    };
+    let lent = Bounded {
+        lent: stores,
+        bound,
+    };
+    checks::check_lent(graph, arrays, &lent, cells / cell::WIDTH)
 }
 
 // 02, R-13: a saved state is taken, and the run goes on from it; or it is refused by 24.
+// The caller lends the ledger's bytes, so the number of its tokens goes beside them.
 fn resume(
     graph: &[u8],
     arrays: &[u8],
@@ -137,22 +98,20 @@ fn resume(
         result ledger.old ledger.new cells.old cells.new }
 {
     let mut tables = [0u16; store_enabled::TABLES_LENGTH];
-    let mut links = [0u16; store_chains::LENGTH];
-    let mut flags = Flags::new();
+    let mut store = Store::new();
     graph_tables::make(graph, arrays, &mut tables);
-    if !saved::take(
-        graph, &tables, &mut links, &mut flags, ledger, cells, firings, used,
-    ) {
+    if !saved::take(graph, &tables, &mut store, ledger, cells, firings, used) {
         return answer::refused(Refusal::DamagedState.at(0));
     }
+    let order = choice::order_under(picks, bound);
     let mut none = [0u8; 0];
-    let own = go_on(
+    let own = turns::proceed(
         graph,
         &tables,
+        order,
         picks,
-        bound,
-        &mut links,
-        &mut flags,
+        &mut Plain,
+        &mut store,
         ledger,
         cells,
         &mut none,
@@ -169,7 +128,7 @@ pub fn check_graph(graph: &[u8]) -> Result<(), Fault>
     graph::check(graph)
 }
 
-// A run over lent bytes: its answer, and what it leaves in ledger and cells, are what the rules give. The bound is 0 for none.
+// A run over lent bytes: its answer, and what it leaves in ledger and cells, are what the rules give. The bound is 0 for none, as in C.
 pub fn run(
     graph: &[u8],
     arrays: &[u8],
@@ -184,7 +143,17 @@ pub fn run(
         (lent_to_run picks.now ledger.old cells.old) (left_by_run result ledger.new cells.new) }
 {
     let k = bound as usize;
-    let checked = checks::check_bounded(graph, arrays, inputs, picks, k, ledger.len(), cells.len());
+    let stores = Stores {
+        inputs: inputs.len(),
+        picks: picks.len(),
+        ledger: ledger.len(),
+        cells: cells.len(),
+    };
+    let lent = Bounded {
+        lent: stores,
+        bound: k,
+    };
+    let checked = checks::check_with(graph, arrays, &lent, inputs, ledger.len(), cells.len());
     match checked {
         Err(fault) => answer::refused(fault),
         Ok(()) => {
@@ -204,7 +173,8 @@ pub fn run(
     }
 }
 
-// The same run, which also writes a log: the first records of it, one for each firing.
+// The same run, which also writes a log: the first records of it, one for each firing. `run` is no call of it with an empty log, which
+// refusal 7 would meet.
 pub fn run_logged(
     graph: &[u8],
     arrays: &[u8],
@@ -222,17 +192,22 @@ pub fn run_logged(
 {
     let firings = budget as usize;
     let k = bound as usize;
-    let checked = checks::check_logged(
-        graph,
-        arrays,
-        inputs,
-        picks,
-        firings,
-        k,
-        ledger.len(),
-        cells.len(),
-        log.len(),
-    );
+    let stores = Stores {
+        inputs: inputs.len(),
+        picks: picks.len(),
+        ledger: ledger.len(),
+        cells: cells.len(),
+    };
+    let logged = Logged {
+        stores,
+        budget: firings,
+        log: log.len(),
+    };
+    let bounded = Bounded {
+        lent: logged,
+        bound: k,
+    };
+    let checked = checks::check_with(graph, arrays, &bounded, inputs, ledger.len(), cells.len());
     match checked {
         Err(fault) => answer::refused(fault),
         Ok(()) => accepted(graph, arrays, inputs, picks, firings, k, ledger, cells, log),

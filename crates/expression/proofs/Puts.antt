@@ -44,6 +44,12 @@ module _ {s numbers : List ℕ} (h : NumberedRecords s numbers) (i : ℕ) (low :
       let o : OperationAt ts i = (passed s h.passed).operation i low (rw at_i v) in
       (rw at_i at o.left, rw at_i at o.right)
 
+  -- its kind is that of an operation
+  pub kind_between : is_variable t ≡ false → (16 ≤ t.kind) × (t.kind ≤ 23)
+  kind_between v =
+      let o : OperationAt ts i = (passed s h.passed).operation i low (rw at_i v) in
+      (rw at_i at o.least, rw at_i at o.most)
+
   module _ (to : Destination) (g : List Instruction) (size : length g ≡ suc (length ts)) (rest before after : List ℕ) (is : before ≡ joined Graph.encode_instruction g ++ rest) where
     abbrev own : List Instruction
     own = set g (instruction_for ts i) (sending (code_for (term_at ts i)) to)

@@ -4,7 +4,8 @@ ghost use Rattle.record.specs.ExpressionRecords.{expression_of};
 ghost use Rattle.rules.specs.Expression.{most_terms, is_expression_length, good_term, check_expression, check_made, check_values, check_good_terms, check_named};
 ghost use Rattle.expression.specs.Tables.{MarkedNamed, NamesInside};
 
-use crate::numbers;
+use crate::{kind, numbers};
+use record::codec::Decode;
 use record::term::Term;
 use record::{instruction, term};
 use rules::answer::{Fault, Refusal};
@@ -19,6 +20,7 @@ fn good_length(len: usize) -> bool
 }
 
 // Whether record i is as it may be, where the table has what the records before it name.
+#[tactic(auto, unfolding(rules::specs::Expression::good_term, rules::specs::Expression::good_operation))]
 fn good_term(named: &[bool; MOST], i: usize, t: Term) -> bool
     requires { i ≤ most_terms }
     ensures { (earlier : List Term) → MarkedNamed earlier named.now → result ≡ good_term earlier i t }
@@ -28,12 +30,11 @@ fn good_term(named: &[bool; MOST], i: usize, t: Term) -> bool
     if t.zeros != 0 {
         return false;
     }
-    if t.kind == 0 {
+    if kind::is_variable(t) {
         return left == 0 && right == 0;
     }
-    16 <= t.kind
-        && (t.kind <= 23
-            && (left < i && (right < i && (left != right && (!named[left] && !named[right])))))
+    kind::operation_of(t).is_some()
+        && (left < i && (right < i && (left != right && (!named[left] && !named[right]))))
 }
 
 // Adds what a record names to the table.
@@ -41,7 +42,7 @@ fn mark(named: &mut [bool; MOST], t: Term)
     requires { NamesInside t }
     ensures { (ts : List Term) → MarkedNamed ts named.old → MarkedNamed (ts ++ t ∷ []) named.new }
 {
-    if t.kind == 0 {
+    if kind::is_variable(t) {
         return;
     }
     let left = t.left as usize;
@@ -57,7 +58,7 @@ fn terms(expression: &[u8], named: &mut [bool; MOST]) -> Result<(), Fault>
     ensures marked_named { result ≡ Ok tt → MarkedNamed (expression_of expression.now) named.new }
 {
     for i in 0..expression.len() / term::WIDTH {
-        let t = term::term_at(expression, i);
+        let t = Term::read(expression, i);
         if !good_term(named, i, t) {
             return Err(Refusal::BadExpression.at(i));
         }
@@ -71,8 +72,9 @@ fn all_named(expression: &[u8], named: &[bool; MOST]) -> Result<(), Fault>
     requires { (is_expression_length (length expression.now) ≡ true) × MarkedNamed (expression_of expression.now) named.now }
     ensures { result ≡ check_named (expression_of expression.now) }
 {
-    for j in 0..expression.len() / term::WIDTH - 1 {
-        if !named[j] {
+    let last = expression.len() / term::WIDTH - 1;
+    for (j, &is_named) in named[0..last].iter().enumerate() {
+        if !is_named {
             return Err(Refusal::BadExpression.at(j));
         }
     }

@@ -2,28 +2,15 @@
 ghost use Rattle.std.specs.Prelude.{◌≡◌, ◌/◌, ◌<◌, length, get_or, pos, Ok};
 ghost use Rattle.record.specs.ExpressionRecords.{expression_of};
 ghost use Rattle.record.specs.Widths.{value_width};
-ghost use Rattle.rules.specs.Expression.{arithmetic_of, combined, variables_of, is_variable, count, value_at, expression_value, check_values};
+ghost use Rattle.rules.specs.Expression.{combined, variables_of, is_variable, count, value_at, expression_value, check_values};
 ghost use Rattle.expression.specs.Tables.{NumberedRecords};
 
 use crate::check::MOST;
-use crate::numbers;
+use crate::{kind, numbers};
+use record::codec::Decode;
 use record::operation::Arithmetic;
 use record::term;
-
-fn arithmetic_of(kind: u8) -> Arithmetic
-    ensures { result ≡ arithmetic_of kind }
-{
-    match kind {
-        17 => Arithmetic::Sub,
-        18 => Arithmetic::Mul,
-        19 => Arithmetic::Div,
-        20 => Arithmetic::Rem,
-        21 => Arithmetic::Lt,
-        22 => Arithmetic::Le,
-        23 => Arithmetic::Eq,
-        _ => Arithmetic::Add,
-    }
-}
+use record::term::Term;
 
 // What is out of range stays so.
 fn combine(op: Arithmetic, left: Option<i32>, right: Option<i32>) -> Option<i32>
@@ -46,13 +33,13 @@ fn value_at(expression: &[u8], numbers: &[u16; MOST], values: &[u8], i: usize) -
         × (length values.now / value_width ≡ count is_variable (expression_of expression.now)) }
     ensures { result ≡ value_at (expression_of expression.now) (variables_of values.now) i }
 {
-    let t = term::term_at(expression, i);
-    if t.kind == 0 {
+    let t = Term::read(expression, i);
+    if kind::is_variable(t) {
         return Some(variable(values, numbers[i] as usize));
     }
     let left = value_at(expression, numbers, values, t.left as usize);
     let right = value_at(expression, numbers, values, t.right as usize);
-    combine(arithmetic_of(t.kind), left, right)
+    combine(kind::operation_of(t)?, left, right)
 }
 
 // The value of the last record.

@@ -4,6 +4,7 @@
 
 mod check;
 mod evaluate;
+mod kind;
 mod numbers;
 mod put;
 

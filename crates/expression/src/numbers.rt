@@ -6,6 +6,8 @@ ghost use Rattle.rules.specs.Expression.{is_variable, count, check_expression};
 ghost use Rattle.expression.specs.Tables.{NumberedRecords};
 
 use crate::check::MOST;
+use crate::kind;
+use record::codec::Decode;
 use record::term;
 use record::term::Term;
 
@@ -13,7 +15,7 @@ use record::term::Term;
 fn variable_of(t: Term) -> usize
     ensures { (result ≡ count is_variable (t ∷ [])) × (result ≤ 1) }
 {
-    if t.kind == 0 { 1 } else { 0 }
+    usize::from(kind::is_variable(t))
 }
 
 // How many variables there are.
@@ -22,7 +24,7 @@ pub fn variables(expression: &[u8]) -> usize
 {
     let mut n = 0;
     for i in 0..expression.len() / term::WIDTH {
-        n += variable_of(term::term_at(expression, i));
+        n += variable_of(Term::read(expression, i));
     }
     n
 }
@@ -32,13 +34,14 @@ fn number_of(t: Term, before: usize, i: usize, n: usize) -> usize
     requires { (before ≤ i) × (n + i ≤ 200) }
     ensures { (result ≡ cond (is_variable t) before (n + (i - before))) × (result ≤ n + i) }
 {
-    if t.kind == 0 {
+    if kind::is_variable(t) {
         before
     } else {
         n + (i - before)
     }
 }
 
+// By number: a record, and its entry in the table.
 pub fn numbers(expression: &[u8]) -> [u16; MOST]
     requires { check_expression expression.now ≡ Ok tt }
     ensures { NumberedRecords expression.now result }
@@ -47,7 +50,7 @@ pub fn numbers(expression: &[u8]) -> [u16; MOST]
     let mut numbers = [0u16; MOST];
     let mut before = 0;
     for i in 0..expression.len() / term::WIDTH {
-        let t = term::term_at(expression, i);
+        let t = Term::read(expression, i);
         numbers[i] = number_of(t, before, i, n) as u16;
         before += variable_of(t);
     }

@@ -1,31 +1,53 @@
 // The graph of an expression, by recursion on a falling record number.
-ghost use Rattle.std.specs.Prelude.{◌≡◌, List, ◌++◌, ℕ, suc, ◌*◌, ◌≤◌, ◌<◌, length, pos, Ok};
+ghost use Rattle.std.specs.Prelude.{◌≡◌, List, ◌++◌, ℕ, suc, ◌*◌, ◌≤◌, ◌<◌, length, Ok};
 ghost use Rattle.buffer.specs.Rows.{joined, written_over};
 ghost use Rattle.record.specs.ExpressionRecords.{expression_of};
 ghost use Rattle.record.specs.GraphRecords as Graph;
 ghost use Rattle.record.specs.Widths.{graph_width};
-ghost use Rattle.rules.specs.Expression.{code_for, graph_for, put_at, check_made};
+ghost use Rattle.rules.specs.Expression.{code_for, sending, graph_for, put_at, check_made};
 ghost use Rattle.rules.specs.Expression as Expression;
 ghost use Rattle.expression.specs.Tables.{NumberedRecords};
 
 use crate::check::MOST;
-use crate::numbers;
+use crate::{kind, numbers};
+use record::codec::{Decode, Encode};
 use record::instruction::{Destination, Instruction};
+use record::term;
 use record::term::Term;
-use record::{instruction, term};
 
-// An instruction without a constant that sends to one destination, or to none.
-fn instruction_of(code: u8, fanout: u8, to: Destination) -> Instruction
-    ensures { result ≡ record { code = code; fanout = fanout; first = to; second = Expression.nowhere; constant = pos 0; zeros = 0 } }
+// The codes of COPY and OUT. Numbers, since the code of an operation on two records is its kind.
+const COPY: u8 = 1;
+
+const OUT: u8 = 3;
+
+const NOWHERE: Destination = Destination {
+    instruction: 0,
+    port: 0,
+};
+
+// An instruction without a constant that sends to one destination. It goes by the code, as the definition `sending` does.
+fn sending(code: u8, to: Destination) -> Instruction
+    ensures { result ≡ sending code to }
 {
     Instruction {
         code,
-        fanout,
+        fanout: 1,
         first: to,
-        second: Destination {
-            instruction: 0,
-            port: 0,
-        },
+        second: NOWHERE,
+        constant: 0,
+        zeros: 0,
+    }
+}
+
+// OUT sends to none.
+fn out() -> Instruction
+    ensures { result ≡ Expression.out }
+{
+    Instruction {
+        code: OUT,
+        fanout: 0,
+        first: NOWHERE,
+        second: NOWHERE,
         constant: 0,
         zeros: 0,
     }
@@ -35,7 +57,7 @@ fn instruction_of(code: u8, fanout: u8, to: Destination) -> Instruction
 fn code_of(t: Term) -> u8
     ensures { result ≡ code_for t }
 {
-    if t.kind == 0 { 1 } else { t.kind }
+    if kind::is_variable(t) { COPY } else { t.kind }
 }
 
 // Puts the instruction of record i, which sends to `to`, those of the records that it names, and so on.
@@ -46,11 +68,11 @@ fn put(expression: &[u8], numbers: &[u16; MOST], i: usize, to: Destination, grap
         → length g ≡ suc (length (expression_of expression.now)) → graph.old ≡ joined Graph.encode_instruction g ++ rest
         → graph.new ≡ joined Graph.encode_instruction (put_at (expression_of expression.now) i to g) ++ rest }
 {
-    let t = term::term_at(expression, i);
+    let t = Term::read(expression, i);
     let number = numbers[i];
-    let r = instruction_of(code_of(t), 1, to);
-    instruction::put_instruction(graph, number as usize, r);
-    if t.kind == 0 {
+    let r = sending(code_of(t), to);
+    r.write(graph, number as usize);
+    if kind::is_variable(t) {
         return;
     }
     let left = Destination {
@@ -72,11 +94,7 @@ pub fn write(expression: &[u8], graph: &mut [u8])
 {
     let numbers = numbers::numbers(expression);
     let n = expression.len() / term::WIDTH;
-    let nowhere = Destination {
-        instruction: 0,
-        port: 0,
-    };
-    instruction::put_instruction(graph, n, instruction_of(3, 0, nowhere));
+    out().write(graph, n);
     let out = Destination {
         instruction: n as u16,
         port: 0,

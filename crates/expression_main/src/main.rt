@@ -4,6 +4,7 @@
 ghost use Rattle.std.specs.Prelude.{◌/◌, ◌≤◌, ◌<◌, length};
 ghost use Rattle.record.specs.Widths.{term_width, value_width, graph_width, token_width};
 
+use record::codec::{Decode, Encode};
 use record::instruction::Instruction;
 use record::tag::{Path, Tag};
 use record::token::{Content, Token};
@@ -12,7 +13,7 @@ use rules::answer;
 use rules::answer::Answer;
 use std::io;
 
-// Record i of an expression.
+// Record i of an expression. The kind is a number, since one that no expression has is tried too.
 fn put_term(expression: &mut [u8], i: usize, kind: u8, left: u8, right: u8)
     requires { i < length expression.old / term_width }
 {
@@ -36,7 +37,7 @@ fn put_value(values: &mut [u8], inputs: &mut [u8], k: usize, value: i32)
         port: 0,
         content: Content::Live(value),
     };
-    token::put_token(inputs, k, t);
+    t.write(inputs, k);
 }
 
 // An instruction with its destination.
@@ -51,7 +52,7 @@ fn say_instruction(rt: &impl Print, i: usize, r: Instruction) -> io::Result<()> 
 
 fn say_graph(rt: &impl Print, graph: &[u8]) -> io::Result<()> {
     for i in 0..graph.len() / instruction::WIDTH {
-        say_instruction(rt, i, instruction::instruction_at(graph, i))?;
+        say_instruction(rt, i, Instruction::read(graph, i))?;
     }
     Ok(())
 }
@@ -70,7 +71,7 @@ fn say_if_out(rt: &impl Print, t: Token, out: usize) -> io::Result<()> {
 // The token at OUT, which is the graph's last instruction. Bytes past the used records are zeros, which name the first.
 fn say_out(rt: &impl Print, ledger: &[u8], out: usize) -> io::Result<()> {
     for i in 0..ledger.len() / token::WIDTH {
-        say_if_out(rt, token::token_at(ledger, i), out)?;
+        say_if_out(rt, Token::read(ledger, i), out)?;
     }
     Ok(())
 }

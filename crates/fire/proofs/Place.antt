@@ -26,7 +26,7 @@ use Rattle.store_chains.proofs.Index.{and_left, and_right}
 use Rattle.store_enabled.specs.Enabled.{is_live_record, arity_of, is_enabled, earliest_of, leads_in}
 use Rattle.store_enabled.specs.Store.{OperandPlaces}
 use Rattle.store_enabled.proofs.Places.{first_place}
-use Rattle.store_enabled.proofs.Store.{all_at}
+use Rattle.store_enabled.proofs.Stored.{all_at}
 use Rattle.rules.specs.Check.{instruction_at, operands_at}
 use Rattle.rules.specs.InstructionSet.{is_result, arity_in}
 use Rattle.abstraction.specs.States.{no_token, OnPorts}

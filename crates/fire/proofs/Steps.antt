@@ -12,7 +12,6 @@ use lib.Dec.{eqb}
 use borrow.Author.Tests.{eqb-true}
 use lib.IntN.{ℤ}
 use Rattle.std.specs.Prelude.{Result, Ok, Err}
-use Rattle.record.specs.declared.array.NamedArray.{NamedArray}
 use Rattle.record.specs.declared.tag.Tag.{Tag}
 use Rattle.record.specs.declared.token.Token as Record
 use Rattle.record.specs.declared.token.Content as RecordContent
@@ -20,7 +19,8 @@ use Rattle.record.specs.declared.cell.Cell as RecordCell
 use Rattle.record.specs.declared.instruction.Instruction.{Instruction}
 use Rattle.buffer.specs.Rows.{All}
 use Rattle.record.specs.TokensAndTags.{tokens, token_at}
-use Rattle.record.specs.GraphRecords.{graph_of}
+use Rattle.record.specs.declared.operation.Operation.{Operation}
+use Rattle.record.specs.GraphRecords.{graph_of, instruction_in, operation_of}
 use Rattle.record.specs.TokensAndTags as Tokens
 use Rattle.buffer.proofs.Tables.{length_rows, get_d_rows}
 use Rattle.record.specs.Widths.{token_width, cell_width, graph_width}
@@ -32,15 +32,15 @@ use Rattle.machine.specs.Orders.{Good, CellsBelow, ReadsForSome}
 use Rattle.rules.specs.declared.answer.Refusal.{Refusal}
 use Rattle.rules.specs.declared.answer.Refusal.TheVariants.{SecondWrite}
 use Rattle.rules.specs.Check.{operands_at, check_graph}
-use Rattle.rules.specs.InstructionSet.{arity_in, machine_of, effect_in}
-use Rattle.rules.proofs.Lawful.{lawful}
+use Rattle.rules.specs.InstructionSet.{arity_in, machine_of}
 use Rattle.fire_effect.specs.declared.output.Key as EffectKey
 use Rattle.fire_effect.specs.declared.output.Outputs.{Outputs}
 use Rattle.fire_effect.specs.declared.operate.Action.{Action}
 use Rattle.fire_effect.specs.declared.operate.Action.TheVariants.{Send, Read, Write}
-use Rattle.fire_effect.specs.Effects.{key_held, keys_held, output_keys, action_held, Arrives, AllSent, Effected}
+use Rattle.fire_effect.specs.Effects.{key_held, keys_held, output_keys, action_held, Arrives, AllSent, Makes, new_tags_of, then_tags}
 use Rattle.fire_effect.proofs.Arrives.{arrives_port, arrives_inside}
 use Rattle.fire_effect.proofs.Does.{records}
+use Rattle.fire_effect.proofs.Parted.{first_refused, second_refused, both_held}
 use Rattle.abstraction.proofs.Arities.{arity_small}
 use Rattle.store_chains.proofs.Index.{and_left}
 use Rattle.store_enabled.specs.Enabled.{arity_of, is_enabled, earliest_of, leads_in}
@@ -55,7 +55,8 @@ use Rattle.fire_commit.specs.Commit.{Committed, done, refused, if_admitted, comm
 use Rattle.fire_commit.proofs.AsMachine.{fired_of, commit_held}
 use Rattle.fire.proofs.Place.{place_here, operands_here}
 use Rattle.fire.proofs.Effects.{good_committed}
-use Rattle.fire.specs.Running.{machine_over, state_in, Arrived, Running, asked, asked_in, Went, Stopped, Stepped, Prepared}
+use Rattle.fire.specs.Running.{machine_over, state_in, Arrived, Running, Went, Stopped, Stepped, Prepared}
+use Rattle.fire.specs.Operating.{Operated, After, Asks, Keeps, asked_with, kept_with, asked_by, kept_by, InTurn, AllSound}
 
 -- ---- what holds of a token by its tag and port alone
 
@@ -107,11 +108,6 @@ pub on_cells : (n : ℕ) (a : Action) (keys : List (Key Tag)) → CellsBelow n (
 on_cells n (Send v) keys h = tt
 on_cells n (Read c) keys h = h
 on_cells n (Write c v) keys h = h
-
--- what the code's commit requires of them
-pub fitting : (g : List Instruction) (table : List NamedArray) (cells : ℕ) (τ : Tag) (a b : ℤ) (x : Action) (o : Outputs) → Effected g table cells τ a b x o → Fitting cells x o
-fitting g table cells τ a b x o h =
-    (h.counted, low_ports g o.count o.first o.second (sent_keys (Arrives g) x (output_keys o) h.arrives), on_cells cells x (output_keys o) h.cells_below)
 
 -- ---- tokens after a firing
 
@@ -178,6 +174,11 @@ pub record Done (g : List Instruction) (cells : ℕ) (x : Action) (o : Outputs) 
   pub cells_below : CellsBelow cells e
   pub reads_for_some : ReadsForSome e
 
+-- what the code's commit requires of them
+fitting : (g : List Instruction) (cells : ℕ) (x : Action) (o : Outputs) {e : Effect Refusal Tag ℤ} → Done g cells x o e → Fitting cells x o
+fitting g cells x o d =
+    (d.counted, low_ports g o.count o.first o.second (sent_keys (Arrives g) x (output_keys o) d.arrives), on_cells cells x (output_keys o) (rw (← d.held) at d.cells_below))
+
 module _ (graph : List ℕ) (passed : check_graph graph ≡ Ok tt) {tables links flags ledger cells : List ℕ} {used : ℕ}
     (now : Running (graph_of graph) tables links flags ledger cells used) (τ : Tag) (few : arity_in (graph_of graph) τ ≤ 2) where
   abbrev g : List Instruction
@@ -197,8 +198,11 @@ module _ (graph : List ℕ) (passed : check_graph graph ≡ Ok tt) {tables links
     pub there : operands M (look M s) τ ≡ some (record { left = v; right = w })
     there = held_operands (graph_of graph) (arrays_in tables) (length ledger / token_width) (length cells / cell_width) (tokens used ledger) (cells_in cells) τ few ∙ ap values_of matched
 
-    pub asked_found : asked M s τ ≡ effect_in (graph_of graph) (arrays_in tables) (length cells / cell_width) τ v w
-    asked_found = rw there
+    asked_found : (asks : Tag → ℤ → ℤ → Effect Refusal Tag ℤ) → asked_with M asks s τ ≡ asks τ v w
+    asked_found asks = rw there
+
+    kept_found : {S : Type 0} (x : S) (keeps : Tag → ℤ → ℤ → S) → kept_with M x keeps s τ ≡ keeps τ v w
+    kept_found x keeps = rw there
 
     -- an effect that the code's action and outputs are
     module _ (x : Action) (o : Outputs) (e : Effect Refusal Tag ℤ) (does : Done (graph_of graph) (length cells / cell_width) x o e) where
@@ -341,14 +345,11 @@ module _ (graph : List ℕ) {tables links flags ledger cells : List ℕ} {used :
   abbrev s₁ : State Tag ℤ
   s₁ = state_in ledger cells used
 
-  -- whatever asks for it, a refusal: nothing was written
-  pub asks_refusal : (σ : Tag) {e : Effect Refusal Tag ℤ} {r : Refusal} → e ≡ refuse r → Stopped r (graph_of graph) σ e tables links flags ledger cells used ledger cells
-  unfolding commit
-  asks_refusal σ h = record { step = ap (commit M₁ s₁ σ) h; running = now; same_ledger = refl; same_cells = refl }
-
-  -- the operands that matching found, and the token that the code read at the place
+  -- the operands that matching found, and the token, its instruction and the operation that the code read; the operation gives `did`, and then there is kept what `y` is
   module _ (t : Record.Token) (same : t ≡ token_at ledger place) (other : ℕ) (v w : ℤ)
-      (matched : matched_at (arity_in (graph_of graph) (token_at ledger place).tag) (tokens used ledger) (token_at ledger place).tag ≡ both_at (token_at ledger place).port place other v w) where
+      (matched : matched_at (arity_in (graph_of graph) (token_at ledger place).tag) (tokens used ledger) (token_at ledger place).tag ≡ both_at (token_at ledger place).port place other v w)
+      (r : Instruction) (o : Operation) (fetched : r ≡ instruction_in graph t.tag.instruction) (decoded : o ≡ operation_of r.code)
+      {S : Type 0} (x : S) {operated : Operated} {after : After S} {control : ℤ → ℤ} {asks : Asks} {keeps : Keeps S} (turn : InTurn operated after control asks keeps) (sound : AllSound asks) where
     abbrev τ : Tag
     τ = (token_at ledger place).tag
 
@@ -359,29 +360,65 @@ module _ (graph : List ℕ) {tables links flags ledger cells : List ℕ} {used :
     j = by_port (token_at ledger place).port other place
 
     abbrev its : Effect Refusal Tag ℤ
-    its = asked_in (graph_of graph) tables ledger cells used (token_at ledger place).tag
+    its = asked_by asks (graph_of graph) tables ledger cells used (token_at ledger place).tag
 
-    found : its ≡ effect_in (graph_of graph) (arrays_in tables) (length cells / cell_width) τ v w
-    found = asked_found graph ready.passed now τ (arity_small (graph_of graph) τ) i j v w matched
+    abbrev effect : Effect Refusal Tag ℤ
+    effect = asks (graph_of graph) (arrays_in tables) (length cells / cell_width) t.tag v w
 
-    -- the operation or the new tags are refused
-    pub stopped_here : {r : Refusal} → effect_in (graph_of graph) (arrays_in tables) (length cells / cell_width) t.tag v w ≡ refuse r → Stopped r (graph_of graph) τ its tables links flags ledger cells used ledger cells
-    stopped_here e = asks_refusal τ (found ∙ ap (λ (u : Record.Token). effect_in (graph_of graph) (arrays_in tables) (length cells / cell_width) u.tag v w) (sym same) ∙ e)
+    found : its ≡ effect
+    found =
+        asked_found graph ready.passed now τ (arity_small (graph_of graph) τ) i j v w matched (asks (graph_of graph) (arrays_in tables) (length cells / cell_width))
+        ∙ ap (λ (u : Record.Token). asks (graph_of graph) (arrays_in tables) (length cells / cell_width) u.tag v w) (sym same)
 
-    -- from matching to output
-    pub stepped_here : (x : Action) (o : Outputs) → Effected (graph_of graph) (arrays_in tables) (length cells / cell_width) t.tag v w x o
-        → (links' flags' ledger' cells' : List ℕ) (r : Result ℕ Refusal)
-        → CommittedTo r (committed_of (length ledger / token_width) (tokens used ledger) (cells_in cells) place other x o) tables links' flags' ledger' cells' used ledger cells
-        → Stepped r (graph_of graph) τ its tables links' flags' ledger' cells' used ledger cells
-    stepped_here x o effected links' flags' ledger' cells' r left =
-        let does = subst (λ (u : Record.Token). Effected (graph_of graph) (arrays_in tables) (length cells / cell_width) u.tag v w x o) same effected in
-        let asks : action_held x (output_keys o) ≡ its = does.held ∙ sym found in
-        stepped graph ready.passed now τ (arity_small (graph_of graph) τ) i j v w matched x o its
-        (record {
-          held = asks;
-          counted = does.counted;
-          arrives = does.arrives;
-          cells_below = subst (CellsBelow (length cells / cell_width)) asks does.cells_below;
-          reads_for_some = subst ReadsForSome (sym found) ((lawful graph ready.passed (arrays_in tables) (length ledger / token_width) (length cells / cell_width)).reads_for_some τ v w);
-        }) links' flags' ledger' cells' r
-        (subst (λ (y : Committed). CommittedTo r y tables links' flags' ledger' cells' used ledger cells) (committed_by_port (token_at ledger place).port place other (length ledger / token_width) (tokens used ledger) (cells_in cells) x o) left)
+    in_turn_lem : effect ≡ then_tags (operated o (arrays_in tables) r.constant (length cells / cell_width) v w) (new_tags_of o (graph_of graph) t.tag r (control w))
+    in_turn_lem = rw (decoded, fetched) (turn.asked graph (arrays_in tables) (length cells / cell_width) t.tag v w (inside t same))
+
+    -- what is kept after it
+    pub kept_here : {y : S} → y ≡ after o (arrays_in tables) r.constant (length cells / cell_width) v w → y ≡ kept_by x keeps (graph_of graph) tables ledger cells used (token_at ledger place).tag
+    kept_here e =
+        e
+        ∙ sym
+        (kept_found graph ready.passed now τ (arity_small (graph_of graph) τ) i j v w matched x (keeps (graph_of graph) (arrays_in tables) (length cells / cell_width))
+        ∙ ap (λ (u : Record.Token). keeps (graph_of graph) (arrays_in tables) (length cells / cell_width) u.tag v w) (sym same)
+        ∙ rw (decoded, fetched) (turn.kept graph (arrays_in tables) (length cells / cell_width) t.tag v w (inside t same)))
+
+    -- a refusal: nothing was written
+    stopped_here : {q : Refusal} → effect ≡ refuse q → Stopped q (graph_of graph) τ its tables links flags ledger cells used ledger cells
+    unfolding commit
+    stopped_here e = record { step = ap (commit M₁ s₁ τ) (found ∙ e); running = now; same_ledger = refl; same_cells = refl }
+
+    module _ {did : Result Action Refusal} (gives : did ≡ operated o (arrays_in tables) r.constant (length cells / cell_width) v w) where
+      -- the operation is refused
+      pub operation_refused : {q : Refusal} → did ≡ Err q → Stopped q (graph_of graph) τ its tables links flags ledger cells used ledger cells
+      operation_refused e = stopped_here (first_refused _ _ in_turn_lem (sym gives ∙ e))
+
+      module _ {a : Action} (acts : did ≡ Ok a) {m : Result Outputs Refusal} (made : Makes m (new_tags_of o (graph_of graph) t.tag r (control w))) where
+        -- the new tags are
+        pub tags_refused : {q : Refusal} → m ≡ Err q → Stopped q (graph_of graph) τ its tables links flags ledger cells used ledger cells
+        tags_refused e = stopped_here (second_refused _ _ in_turn_lem (sym gives ∙ acts) made e)
+
+        module _ {s : Outputs} (to : m ≡ Ok s) where
+          does : Done (graph_of graph) (length cells / cell_width) a s effect
+          does =
+              let held : action_held a (output_keys s) ≡ effect = both_held _ _ in_turn_lem (sym gives ∙ acts) made to in
+              let fine = sound graph ready.passed (arrays_in tables) (length cells / cell_width) t.tag v w in
+              record {
+                held = held;
+                counted = rw to at made.counted;
+                arrives = rw held fine.arrives;
+                cells_below = fine.cells_below;
+                reads_for_some = fine.reads_for_some;
+              }
+
+          -- what commit requires of action and outputs
+          pub fits_commit : Fitting (length cells / cell_width) a s
+          fits_commit = fitting (graph_of graph) (length cells / cell_width) a s does
+
+          -- from matching to output
+          pub stepped_here : (links' flags' ledger' cells' : List ℕ) (f : Result ℕ Refusal)
+              → CommittedTo f (committed_of (length ledger / token_width) (tokens used ledger) (cells_in cells) place other a s) tables links' flags' ledger' cells' used ledger cells
+              → Stepped f (graph_of graph) τ its tables links' flags' ledger' cells' used ledger cells
+          stepped_here links' flags' ledger' cells' f left =
+              stepped graph ready.passed now τ (arity_small (graph_of graph) τ) i j v w matched a s its
+              (subst (Done (graph_of graph) (length cells / cell_width) a s) (sym found) does) links' flags' ledger' cells' f
+              (subst (λ (z : Committed). CommittedTo f z tables links' flags' ledger' cells' used ledger cells) (committed_by_port (token_at ledger place).port place other (length ledger / token_width) (tokens used ledger) (cells_in cells) a s) left)

@@ -13,6 +13,8 @@ use lib.Signed.{lt_z, non_neg}
 use mir.Syntax.{w8, w32}
 use mir.Val.{Fits, SFits}
 use Rattle.std.specs.Prelude.{None, Some, Result, Ok, Err}
+use Rattle.std.specs.Result.{IsErr, IsErrAnd}
+use Rattle.std.proofs.lemmas.Result.{err_from_is_err_and}
 use Rattle.record.specs.declared.array.NamedArray.{NamedArray}
 use Rattle.record.specs.declared.tag.Tag.{Tag}
 use Rattle.record.specs.declared.instruction.Destination.{Destination}
@@ -72,6 +74,15 @@ made s = record { held = λ v. ap (send v) s.held; counted = s.counted }
 
 pub refused : (r : Refusal) → Makes (Err r) (λ v. refuse r)
 refused r = record { held = λ v. refl; counted = tt }
+
+-- what `?` hands on is the refusal
+abbrev again : {A : Type 0} → Result A Refusal → Result Outputs Refusal
+again (Ok x) = Err Refusals.Iteration
+again (Err e) = Err e
+
+pub passed_on : {A : Type 0} {m : Result Outputs Refusal} {found : Result A Refusal} {e r : Refusal}
+    → IsErr m × IsErrAnd m (λ x. x ≡ e) → found ≡ Err e → found ≡ Err r → m ≡ Err r
+passed_on h was is = let p = err_from_is_err_and _ h.1 in p.1 ∙ ap (λ x. Err x) p.2 ∙ ap again (sym was ∙ is)
 
 -- the same, otherwise named
 pub made_as : {m : Result Outputs Refusal} {f h : ℤ → EffectHere} → ((v : ℤ) → f v ≡ h v) → Makes m h → Makes m f

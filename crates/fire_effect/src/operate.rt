@@ -58,7 +58,7 @@ fn cell_in(first: u16, length: u16, index: i32, cells: usize) -> Option<u32>
 fn entry(tables: &[u16], i: usize) -> u16
     ensures { result ≡ get_or tables.now i 0 }
 {
-    if i < tables.len() { tables[i] } else { 0 }
+    *tables.get(i).unwrap_or(&0)
 }
 
 // Array n of those tables, counted from 0: past the last stands one of no cells.
@@ -109,7 +109,9 @@ fn store(tables: &[u16], k: i32, a: i32, b: i32, cells: usize) -> Result<Action,
 }
 
 // What an operation gives, with its constant k and the operands a and b on ports 0 and 1: a value, a
-// request to a cell, or a refusal. What moves tokens only, or makes tags, gives the value on port 0.
+// request to a cell, or a refusal. What moves tokens only, or makes tags, gives the value on port 0. Instruction and operands go one by
+// one: a struct of them would be made at each call, and taken apart at once.
+#[tactic(auto, unfolding(crate::specs::Effects::operated_of))]
 pub fn operate(
     tables: &[u16],
     o: Operation,
@@ -120,6 +122,7 @@ pub fn operate(
 ) -> Result<Action, Refusal>
     ensures { result ≡ operated_of o (arrays_in tables.now) k cells a b }
 {
+    // The operation is data of the graph: a match, and no table of functions, which would hand out function pointers.
     match o {
         Operation::Const => Ok(Action::Send(k)),
         Operation::Fetch => fetch(tables, k, a, cells),

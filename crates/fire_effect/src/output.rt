@@ -6,6 +6,7 @@ ghost use Rattle.fire_effect.specs.Effects.{key_held, Sends};
 use record::instruction::{Destination, Instruction};
 use record::tag::Tag;
 
+// A port of a tag. It is a number, as in the records of the lent ledger (`Token`).
 #[derive(Clone, Copy, PartialEq, Eq)]
 pub struct Key {
     pub tag: Tag,
@@ -13,7 +14,7 @@ pub struct Key {
 }
 
 // No, one or two outputs, destination 1 first: `count` says how many of the two keys are meant.
-// No optional keys: `under` gives both keys in any case, since to choose between them would cost more.
+// No optional keys: both are given in any case (docs/DECISIONS.md, 208).
 #[derive(Clone, Copy)]
 pub struct Outputs {
     pub count: u8,

@@ -48,6 +48,7 @@ fn to_none(tag: Tag) -> Result<Outputs, Refusal>
 }
 
 // SWITCH: "port 0 to destination 1 if port 1 is not 0, else to destination 2".
+#[tactic(auto, unfolding(rules::specs::InstructionSet::side_of))]
 fn switch(control: i32, tag: Tag, r: Instruction) -> Result<Outputs, Refusal>
     ensures { Makes result (λ v. Machine.send v (key_under tag (side_of control r) ∷ [])) }
 {
@@ -64,9 +65,7 @@ fn switch(control: i32, tag: Tag, r: Instruction) -> Result<Outputs, Refusal>
 fn next(tag: Tag, r: Instruction) -> Result<Outputs, Refusal>
     ensures { Makes result (send_next (next_of tag) r) }
 {
-    let Some(later) = tag.next() else {
-        return Err(Refusal::Iteration);
-    };
+    let later = tag.next().ok_or(Refusal::Iteration)?;
     to_all(later, r)
 }
 
@@ -77,9 +76,7 @@ fn enter(tag: Tag, r: Instruction) -> Result<Outputs, Refusal>
     ensures { Makes result (send_entered (enter_of tag (nat_abs r.constant)) r) }
 {
     let body = r.first;
-    let Some(inner) = tag.enter(byte(r.constant)) else {
-        return Err(Refusal::TooDeep);
-    };
+    let inner = tag.enter(byte(r.constant)).ok_or(Refusal::TooDeep)?;
     to_one(inner, body)
 }
 
@@ -119,6 +116,7 @@ fn leave(graph: &[u8], tables: &Tables, tag: Tag, r: Instruction) -> Result<Outp
 // Where an operation's tokens go: r is the instruction of the tag, and b the operand on port 1.
 // `tables` has the return instruction of each site. The graph has passed its check, so that a site or
 // a LEAVE constant is at most a byte, and an instruction of the graph fits 16 bits.
+#[tactic(auto, unfolding(crate::specs::Effects::new_tags_of))]
 pub fn new_tags(
     graph: &[u8],
     tables: &Tables,
@@ -130,6 +128,7 @@ pub fn new_tags(
     requires { ReadyForTags graph.now tables.now o r }
     ensures { Makes result (new_tags_of o (graph_of graph.now) tag r b) }
 {
+    // The operation is data of the graph: a match, and no table of functions, which would hand out function pointers.
     match o {
         Operation::Sink => to_none(tag),
         Operation::Out => to_none(tag),

@@ -22,7 +22,7 @@ use Rattle.store_chains.proofs.Index.{and_left, and_right, found_within}
 use Rattle.store_enabled.specs.Enabled.{is_live_record, live_on, operands_live, tag_same, earliest_of}
 use Rattle.store_enabled.specs.Store.{Known, live_found}
 use Rattle.store_enabled.proofs.Places.{stands_tag, stands_other, live_found_lem}
-use Rattle.store_enabled.proofs.Store.{all_at, known_few, known_partner}
+use Rattle.store_enabled.proofs.Stored.{all_at, known_few, known_partner}
 use Rattle.abstraction.specs.States.{no_token}
 use Rattle.fire_operands.specs.Operands.{Held, operand_held, operand_found, operand_at, one, two, both_at, Earliest, matched_at}
 

@@ -6,13 +6,14 @@ ghost use Rattle.record.specs.TokensAndTags.{tokens, token_at, value_in};
 ghost use Rattle.store_enabled.specs.Store.{Known};
 ghost use Rattle.fire_operands.specs.Operands.{both_at, Earliest, matched_at};
 
+use record::codec::Decode;
 use record::tag::Tag;
-use record::token;
-use record::token::Content;
-use store_chains::Links;
+use record::token::{Content, Token};
+use store_enabled::Store;
 
 // The operands of an enabled activity: one stands at its place, the other here, and the values are by ports. Where one is waited for,
-// it stands for both: no Option, since `store::spend_operands` spends both places without a test, and one given twice is spent once.
+// it stands for both: no Option, since `states_spent`, by which `store::spend_operands` promises what it does, is of two places, and one
+// that is given twice is spent once.
 #[derive(Clone, Copy)]
 pub struct Operands {
     pub other: usize,
@@ -32,19 +33,20 @@ fn value_in(content: Content) -> i32
 }
 
 // All operands of a tag, which are live. The token at the tag's place is one of them: the other is its partner, where there is
-// one.
+// one. The arity is a number, as `store_enabled::arity` gives it.
+// The caller lends the ledger's bytes, so the number of its tokens goes beside them.
 pub fn operands_of(
-    links: &Links,
+    store: &Store,
     ledger: &[u8],
     used: usize,
     tag: Tag,
     arity: u16,
     place: usize,
 ) -> Operands
-    requires { Known links.now ledger.now used × Earliest arity (tokens used ledger.now) tag place }
+    requires { Known store.now.links ledger.now used × Earliest arity (tokens used ledger.now) tag place }
     ensures { both_at (token_at ledger.now place).port place result.other result.left result.right ≡ matched_at arity (tokens used ledger.now) tag }
 {
-    let t = token::token_at(ledger, place);
+    let t = Token::read(ledger, place);
     let content = t.content;
     let own = value_in(content);
     if arity != 2 {
@@ -54,8 +56,8 @@ pub fn operands_of(
             right: own,
         };
     }
-    let other = store::partner(links, place).unwrap_or(place);
-    let u = token::token_at(ledger, other);
+    let other = store::partner(store, place).unwrap_or(place);
+    let u = Token::read(ledger, other);
     let found = u.content;
     let value = value_in(found);
     if t.port == 0 {

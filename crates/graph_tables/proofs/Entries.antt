@@ -78,7 +78,7 @@ no_returns site h = get_or-replicate 641 site 0 0 (omega arith)
 pub note_returns : (rs : List Instruction) (t : List ℕ) (r : Instruction) → Returns rs t → 256 ≤ length t
     → Returns (r ∷ rs) (at_site t r r.second.instruction)
 unfolding return_of
-note_returns rs t r s n site h = at_site_lem t r r.second.instruction site n h ∙ go (enters_site (pos site) r)
+note_returns rs t r s n site h = at_site_lem t r r.second.instruction site 0 n h ∙ go (enters_site (pos site) r)
   where
     go : (b : Bool) → cond b r.second.instruction (get_or t site 0) ≡ cond b r.second.instruction (return_of site rs)
     go true = refl

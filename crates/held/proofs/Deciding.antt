@@ -28,9 +28,6 @@ use Rattle.held.proofs.Laws.{and_false_lem, other_free, early_free, next_held}
 -- ---- one
 
 module _ (g : List Instruction) (tables ledger : List ℕ) (k used : ℕ) (flags marks : List ℕ) (i : ℕ) where
-  pub lowered_free : eqb (get_or flags i 0) 1 ≡ false → false ≡ held_at g k flags ledger used i
-  lowered_free e = rw e
-
   pub other_free_at : (t : Token) → t ≡ token_at ledger i → eqb (instruction_at g t.tag.instruction).code 7 ≡ false → false ≡ held_at g k flags ledger used i
   other_free_at t same e =
       sym (and_false_lem (eqb (get_or flags i 0) 1) _ (ap (λ (u : Token). held_by g k (map token_held (tokens used ledger)) u.tag) (sym same) ∙ other_free g k (map token_held (tokens used ledger)) t.tag e))
@@ -93,9 +90,6 @@ module _ (f : ℕ → Bool) (nexts : List ℕ) where
   pub record LookedTo (held : List ℕ) (k : ℕ) : Type 0 where
     pub under : Under held nexts
     pub done : (j : ℕ) → j < k → get_or held (get_or (places nexts) j 0) 0 ≡ bit (f (get_or (places nexts) j 0))
-
-  pub none_looked : (held : List ℕ) → Under held nexts → LookedTo held 0
-  none_looked held u = record { under = u; done = λ j h. absurd (omega arith) }
 
   pub one_looked : (held : List ℕ) (k : ℕ) → LookedTo held k → Binary nexts → k < length (places nexts) → (i : ℕ) → i ≡ get_or (places nexts) k 0 → i < length held
       → (on : Bool) → on ≡ f i → (held' : List ℕ) → held' ≡ set held i (bit on) → LookedTo held' (k + 1)

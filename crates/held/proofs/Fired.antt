@@ -36,7 +36,7 @@ use Rattle.store_enabled.specs.Store.{live_found}
 use Rattle.store_chains.specs.Search.{first_from, Single}
 use Rattle.store_enabled.proofs.Arriving.{none_live}
 use Rattle.store_enabled.proofs.Places.{live_found_lem}
-use Rattle.store_enabled.proofs.Store.{all_at}
+use Rattle.store_enabled.proofs.Stored.{all_at}
 use Rattle.store.specs.Matching.{Matching}
 use Rattle.store.proofs.Laws.{matching_stored, matching_places, matching_leads}
 use Rattle.abstraction.specs.States.{no_token, OnPorts}

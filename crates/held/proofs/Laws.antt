@@ -6,8 +6,8 @@ use mathlib.Core.Option.{Option, none, some}
 use mathlib.Core.List.{List, [], ◌∷◌}
 use native.Mathlib.Omega.{arith}
 use lib.Dec.{eqb, leb}
-use lib.ListN.{length, get_or, set, drop}
-use lib.Seq.{get_or-drop, get_or-set_same, get_or-set_other, set-get_or}
+use lib.ListN.{get_or, set, drop}
+use lib.Seq.{get_or-drop, get_or-set_other, set-get_or}
 use lib.IntN.{ℤ}
 use borrow.Author.Tests.{eqb-true, eqb-false, leb-false, le-leb, lt-leb}
 use Rattle.record.specs.declared.tag.Path.{Path}
@@ -66,14 +66,6 @@ held_rule g k s a = refl
 
 -- ---- flags
 
-pub lowered_again : (flags : List ℕ) (i : ℕ) → get_or flags i 0 ≤ 1 → eqb (get_or flags i 0) 1 ≡ false → flags ≡ set flags i 0
-lowered_again flags i small e =
-    let z : get_or flags i 0 ≡ 0 = omega (arith, eqb-false (get_or flags i 0) 1 e) in
-    sym (ap (λ (x : ℕ). set flags i x) (sym z) ∙ set-get_or flags i 0)
-
-pub unraised_again : (flags : List ℕ) (i : ℕ) → get_or flags i 0 ≡ 0 → flags ≡ set flags i 0
-unraised_again flags i z = sym (ap (λ (x : ℕ). set flags i x) (sym z) ∙ set-get_or flags i 0)
-
 content_spent_lem : (bits state : ℕ) → state ≡ 1 → is_spent_record (content_of bits state) ≡ true
 unfolding content_of
 content_spent_lem bits state e = rw e
@@ -110,25 +102,3 @@ module _ (g : List Instruction) (k : ℕ) (ledger : List ℕ) (used n : ℕ) (ne
     pub same : (j : ℕ) → j < used → get_or nexts j 0 ≡ get_or nexts₀ j 0
     pub new : (j : ℕ) → used ≤ j → j < i → get_or nexts j 0 ≡ bit (is_late_next g k (token_at ledger j))
     pub clear : ClearFrom i nexts
-
-  pub none_listed : used ≤ n → ClearFrom used nexts₀ → ListedTo nexts₀ used
-  none_listed h c = record { low = omega arith; high = h; same = λ j l. refl; new = λ j l u. absurd (omega arith); clear = c }
-
-  pub one_listed : (nexts : List ℕ) (i : ℕ) → ListedTo nexts i → i < n → (on : Bool) → on ≡ is_late_next g k (token_at ledger i) → (nexts' : List ℕ) → nexts' ≡ set nexts i (bit on) → get_or nexts' i 0 ≡ bit on → ListedTo nexts' (i + 1)
-  one_listed nexts i l low on e nexts' h at = record {
-    low = omega (arith, l.low);
-    high = omega arith;
-    same = λ j u. other j (omega (arith, l.low)) ∙ l.same j u;
-    new = λ j d u. go j d u (eqb j i) refl;
-    clear = λ j d. other j (omega arith) ∙ l.clear j (omega arith);
-  }
-    where
-      other : (j : ℕ) → ¬ (j ≡ i) → get_or nexts' j 0 ≡ get_or nexts j 0
-      other j z = rw h (get_or-set_other nexts i j (bit on) 0 z)
-
-      go : (j : ℕ) → used ≤ j → j < i + 1 → (b : Bool) → eqb j i ≡ b → get_or nexts' j 0 ≡ bit (is_late_next g k (token_at ledger j))
-      go j d u true q = let same = eqb-true j i q in rw same (at ∙ ap bit e)
-      go j d u false q = let z = eqb-false j i q in other j z ∙ l.new j d (omega arith)
-
-  pub all_listed : (nexts : List ℕ) (i : ℕ) → ListedTo nexts i → n ≤ i → NewListed g k ledger used n nexts₀ nexts
-  all_listed nexts i l h = let e : i ≡ n = omega (arith, l.high) in record { same = l.same; new = λ j d u. l.new j d (omega arith); clear = λ j d. l.clear j (omega arith) }

@@ -21,19 +21,6 @@ use Rattle.held.proofs.Laws.{next_held}
 use Rattle.held.proofs.Deciding.{among, listed_free}
 use Rattle.held.proofs.Following.{marked_more, standing_more, listed_all}
 
--- ---- the new ones
-
-module _ (g : List Instruction) (k : ℕ) (ledger : List ℕ) (used : ℕ) where
-  pub none_new_yet : NoneNew g k ledger used used
-  none_new_yet i l u = absurd (omega arith)
-
-  pub one_new : (i : ℕ) → NoneNew g k ledger used i → is_late_next g k (token_at ledger i) ≡ false → NoneNew g k ledger used (i + 1)
-  one_new i h e j l u = go (eqb j i) refl
-    where
-      go : (b : Bool) → eqb j i ≡ b → is_late_next g k (token_at ledger j) ≡ false
-      go true q = rw (eqb-true j i q) e
-      go false q = let z = eqb-false j i q in h j l (omega arith)
-
 -- ---- those that are listed
 
 module _ (tables flags ledger nexts held marks : List ℕ) where
@@ -43,13 +30,6 @@ module _ (tables flags ledger nexts held marks : List ℕ) where
 
   pub none_still : StillTo 0
   none_still m h = absurd (omega arith)
-
-  pub one_still : (j : ℕ) → StillTo j → (i : ℕ) → i ≡ get_or (places nexts) j 0 → get_or held i 0 ≡ 1 → HeldStill tables flags ledger marks i → StillTo (j + 1)
-  one_still j h i here one still m u = go (eqb m j) refl
-    where
-      go : (b : Bool) → eqb m j ≡ b → (get_or held (get_or (places nexts) m 0) 0 ≡ 1) × HeldStill tables flags ledger marks (get_or (places nexts) m 0)
-      go true q = let same : get_or (places nexts) m 0 ≡ i = ap (λ (x : ℕ). get_or (places nexts) x 0) (eqb-true m j q) ∙ sym here in rw same (one, still)
-      go false q = let z = eqb-false m j q in h m (omega arith)
 
   pub all_still : (j : ℕ) → StillTo j → length (places nexts) ≤ j → AllStill tables flags ledger nexts held marks
   all_still j h past i one =

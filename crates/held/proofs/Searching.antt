@@ -57,12 +57,6 @@ module _ (tables ledger : List ℕ) (used from : ℕ) where
     pub high : at ≤ used
     pub none : (i : ℕ) → from ≤ i → i < at → proper_by tables (token_at ledger i) ≡ true
 
-  pub none_proper : from ≤ used → ProperTo from
-  none_proper h = record { low = omega arith; high = h; none = λ i l u. absurd (omega arith) }
-
-  pub found_pending : (at : ℕ) → ProperTo at → proper_by tables (token_at ledger at) ≡ false → PendingFrom tables ledger used from at
-  found_pending at p e = record { low = p.low; high = p.high; none = p.none; one = λ h. e }
-
   pub all_proper_lem : (at : ℕ) → ProperTo at → used ≤ at → PendingFrom tables ledger used from at
   all_proper_lem at p h = record { low = p.low; high = p.high; none = p.none; one = λ l. absurd (omega arith) }
 
@@ -93,19 +87,16 @@ module _ (tables ledger : List ℕ) (used from : ℕ) where
 -- ---- marks
 
 module _ (tables ledger : List ℕ) (used : ℕ) (marks₀ : List ℕ) where
-  pub none_skipped : Skips tables ledger used marks₀ → Skipped tables ledger used marks₀ marks₀
-  none_skipped s = record { size = refl; same = λ i h. refl; skips = s }
-
-  pub skipped_on : (marks : List ℕ) → Skipped tables ledger used marks₀ marks → length marks₀ ≡ 4096 → used ≤ 2048 → (at r : ℕ) → at < used → PendingFrom tables ledger used at r
-      → (marks' : List ℕ) → marks' ≡ set marks (at + 2048) r → Skipped tables ledger used marks₀ marks'
-  skipped_on marks s size few at r low p marks' e = record {
+  pub skipped_on : (marks : List ℕ) → Skipped tables ledger used marks₀ marks → used ≤ 2048 → (at r : ℕ) → at < used → PendingFrom tables ledger used at r
+      → (marks' : List ℕ) → marks' ≡ set marks (at + 2048) r → length marks' ≡ 4096 → Skipped tables ledger used marks₀ marks'
+  skipped_on marks s few at r low p marks' e size = record {
     size = rw e (length-set marks (at + 2048) r) ∙ s.size;
     same = λ i h. rw e (get_or-set_other marks (at + 2048) i r 0 (λ q. omega arith)) ∙ s.same i h;
     skips = λ j i l u. go j i l u (eqb j at) refl;
   }
     where
       inside : at + 2048 < length marks
-      inside = omega (arith, s.size, size)
+      inside = omega (arith, length-set marks (at + 2048) r, ap length e, size)
 
       go : (j i : ℕ) → j ≤ i → i < get_or marks' (j + 2048) 0 → (b : Bool) → eqb j at ≡ b → (i < used) × (proper_by tables (token_at ledger i) ≡ true)
       go j i l u true q =

@@ -13,7 +13,7 @@ use Rattle.record.specs.declared.token.Token.{Token}
 use Rattle.buffer.proofs.Tables.{length_rows, get_d_rows}
 use Rattle.record.proofs.Records.{length_token}
 use Rattle.record.specs.Widths.{token_width}
-use Rattle.store_enabled.proofs.Store.{all_at}
+use Rattle.store_enabled.proofs.Stored.{all_at}
 use Rattle.store_chains.specs.Search.{Free}
 use Rattle.store.specs.Matching.{Matching}
 use Rattle.store.proofs.Writing.{tokens_first}

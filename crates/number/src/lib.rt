@@ -35,6 +35,7 @@ pub fn u64_at(s: &[u8], k: usize) -> u64
 }
 
 // The signed number that 32 bits stand for.
+#[tactic(auto, unfolding(crate::specs::Number::signed_of))]
 pub fn signed(bits: u32) -> i32
     ensures { result ≡ signed_of bits }
 {

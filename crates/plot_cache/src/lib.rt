@@ -3,10 +3,11 @@
 #![tactic(auto)]
 
 ghost use Rattle.std.specs.Prelude.{◌≡◌, true};
-ghost use Rattle.plot_cache.specs.Serves.{same_bytes, same_machine, same_order, rests, any_order, request, Decided};
+ghost use Rattle.plot_cache.specs.Serves.{same_machine, same_order, rests, any_order, Decided};
 
 use record::{pick, token};
 use rules::answer::{Answer, Outcome};
+use std::marker::Model;
 
 // What a run is given beside graph, table of named arrays, inputs and picks: its budget, its bound, and the lengths in bytes of ledger
 // and cells.
@@ -18,6 +19,27 @@ pub struct Limits {
     pub cells: usize,
 }
 
+// All that a run is given. Clauses see it as the definitions do.
+#[derive(Drop)]
+pub struct Request<'a> {
+    pub graph: &'a [u8],
+    pub arrays: &'a [u8],
+    pub inputs: &'a [u8],
+    pub picks: &'a [u8],
+    pub limits: Limits,
+}
+
+impl<'a> Model for Request<'a> {
+    ghost use Rattle.number.specs.Number.{Bytes};
+    ghost use Rattle.plot_cache.specs.Serves as Serves;
+
+    ghost Value = { Serves.Request };
+
+    ghost view = { λ r. Serves.request r.graph.now r.arrays.now r.inputs.now r.picks.now r.limits };
+
+    ghost invariant = { λ r. Bytes r.graph.now × Bytes r.inputs.now };
+}
+
 // How a run ended: its answer and, of a hang, how many activities its bound holds back in what it left. Only where there is none does it
 // end as every order does.
 #[derive(Clone, Copy)]
@@ -26,42 +48,29 @@ pub struct Ended {
     pub held: usize,
 }
 
-// By `check`: with `==` of slices the proof of `same_machine` did not close.
-fn same(a: &[u8], b: &[u8]) -> bool
-    ensures { result ≡ same_bytes a.now b.now }
-{
-    check::same(a, b)
-}
-
 // Whether two runs start alike: one graph, one table of named arrays, one list of inputs, one capacity and one cell count.
-fn same_machine(
-    kept_graph: &[u8],
-    kept_arrays: &[u8],
-    kept_inputs: &[u8],
-    kept: Limits,
-    graph: &[u8],
-    arrays: &[u8],
-    inputs: &[u8],
-    asked: Limits,
-) -> bool
+// No derived `==` of `Request`: two of one machine may differ in their orders.
+fn same_machine(kept: &Request<'_>, asked: &Request<'_>) -> bool
     ensures { result ≡
-        same_machine kept_graph.now graph.now kept_arrays.now arrays.now
-        kept_inputs.now inputs.now kept asked }
+        same_machine kept.now.graph asked.now.graph kept.now.arrays asked.now.arrays
+        kept.now.inputs asked.now.inputs kept.now.limits asked.now.limits }
 {
-    same(kept_graph, graph)
-        && (same(kept_arrays, arrays)
-            && (same(kept_inputs, inputs)
-                && (kept.ledger == asked.ledger && kept.cells == asked.cells)))
+    kept.graph == asked.graph
+        && (kept.arrays == asked.arrays
+            && (kept.inputs == asked.inputs
+                && (kept.limits.ledger == asked.limits.ledger
+                    && kept.limits.cells == asked.limits.cells)))
 }
 
 // Whether two runs fire alike: equal picks, budgets and bounds.
 fn same_order(kept_picks: &[u8], kept: Limits, picks: &[u8], asked: Limits) -> bool
     ensures { result ≡ same_order kept_picks.now picks.now kept asked }
 {
-    kept.budget == asked.budget && (kept.bound == asked.bound && same(kept_picks, picks))
+    kept.budget == asked.budget && (kept.bound == asked.bound && kept_picks == picks)
 }
 
 // Whether nothing is left enabled: completed, or hung with nothing held back.
+#[tactic(auto, unfolding(crate::specs::Serves::rests))]
 fn rests(outcome: Outcome, held: usize) -> bool
     ensures { result ≡ rests outcome held }
 {
@@ -74,6 +83,7 @@ fn rests(outcome: Outcome, held: usize) -> bool
 }
 
 // Whether a run that ended so ends as every order without a bound does that has this length of picks and this budget.
+#[tactic(auto, unfolding(crate::specs::Serves::any_order))]
 fn any_order(end: Ended, picks: usize, asked: Limits) -> bool
     ensures { result ≡ any_order end picks asked }
 {
@@ -85,31 +95,11 @@ fn any_order(end: Ended, picks: usize, asked: Limits) -> bool
 }
 
 // Whether what is kept of a run that ended so serves for the run that is asked for.
-pub fn serves(
-    kept_graph: &[u8],
-    kept_arrays: &[u8],
-    kept_inputs: &[u8],
-    kept_picks: &[u8],
-    kept: Limits,
-    end: Ended,
-    graph: &[u8],
-    arrays: &[u8],
-    inputs: &[u8],
-    picks: &[u8],
-    asked: Limits,
-) -> bool
-    ensures { Decided
-        (request kept_graph.now kept_arrays.now kept_inputs.now kept_picks.now kept) end
-        (request graph.now arrays.now inputs.now picks.now asked) result }
+#[tactic(auto, unfolding(crate::specs::Serves::serves))]
+pub fn serves(kept: &Request<'_>, end: Ended, asked: &Request<'_>) -> bool
+    ensures { Decided kept.now end asked.now result }
 {
-    same_machine(
-        kept_graph,
-        kept_arrays,
-        kept_inputs,
-        kept,
-        graph,
-        arrays,
-        inputs,
-        asked,
-    ) && (same_order(kept_picks, kept, picks, asked) || any_order(end, picks.len(), asked))
+    same_machine(kept, asked)
+        && (same_order(kept.picks, kept.limits, asked.picks, asked.limits)
+            || any_order(end, asked.picks.len(), asked.limits))
 }

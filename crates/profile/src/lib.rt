@@ -18,11 +18,13 @@ ghost use Rattle.fire.specs.Running.{Prepared, Running};
 ghost use Rattle.start.specs.Begun.{machine_lent};
 ghost use Rattle.profile.specs.Steps.{OneOrTwo, PlacesIn, unspent_at, profile_from, LastAs, FiredAs, StepDone, ProfiledTo};
 
-use checks::stores;
-use record::token;
+use checks::lent::Lent;
+use checks::stores::Stores;
+use fire::Plain;
+use record::codec::Decode;
+use record::token::Token;
 use rules::answer::{Answer, Fault, Outcome, Profiled, Refusal};
-use store_chains::Links;
-use store_enabled::Tables;
+use store_enabled::{Store, Tables};
 use store_flags::Flags;
 
 // The bytes of a step's record.
@@ -58,7 +60,13 @@ pub struct Progress {
 fn check_stores(inputs: usize, ledger: usize, cells: usize, profile: usize) -> Result<(), Fault>
     ensures { result ≡ check_profile_stores inputs ledger cells profile }
 {
-    stores::check(inputs, 0, ledger, cells)?;
+    let stores = Stores {
+        inputs,
+        picks: 0,
+        ledger,
+        cells,
+    };
+    stores.check()?;
     if profile % WIDTH == 0 {
         Ok(())
     } else {
@@ -78,7 +86,7 @@ fn check(
     ensures { result ≡ check_profile graph.now arrays.now inputs.now ledger cells profile }
 {
     let of_stores = check_stores(inputs.len(), ledger, cells, profile);
-    checks::check_with(graph, arrays, of_stores, inputs, ledger, cells)
+    checks::check_with(graph, arrays, &of_stores, inputs, ledger, cells)
 }
 
 // The bytes of a step's record.
@@ -104,7 +112,7 @@ fn operands_at(tables: &Tables, ledger: &[u8], place: usize) -> usize
     requires { (place < length ledger.now / token_width) × OneOrTwo (arity_of tables.now (token_at ledger.now place).tag) }
     ensures { result ≡ arity_of tables.now (token_at ledger.now place).tag }
 {
-    let t = token::token_at(ledger, place);
+    let t = Token::read(ledger, place);
     let tag = t.tag;
     if store_enabled::arity(tables, tag) == 2 {
         2
@@ -148,47 +156,52 @@ fn put_places(flags: &Flags, count: usize, out: &mut [u16; 2048])
     }
 }
 
-// Writes the places of the enabled activities, in order, and answers how many there are. One alone is found at once.
-fn enabled_places(flags: &Flags, out: &mut [u16; 2048]) -> usize
-    requires { length out.old ≡ 2048 }
-    ensures { PlacesIn result flags.now out.new }
-{
-    let count = store::enabled_count(flags);
-    if count == 1 {
-        out[0] = store::enabled_at(flags, 0) as u16;
-        return count;
-    }
-    if count != 0 {
-        put_places(flags, count, out);
-    }
-    count
+// The activities that are due in a step, by their places: so many at the front of the array.
+#[derive(Drop)]
+struct Due {
+    places: [u16; 2048],
+    count: usize,
 }
 
-// The activities at the first places, which are all that are enabled, fire in turn.
+impl Due {
+    // Writes those of the enabled activities, in order. One alone is found at once.
+    fn fill(&mut self, flags: &Flags)
+        ensures { PlacesIn self.new.count flags.now self.new.places }
+    {
+        let count = store::enabled_count(flags);
+        self.count = count;
+        if count == 1 {
+            self.places[0] = store::enabled_at(flags, 0) as u16;
+        } else if count != 0 {
+            put_places(flags, count, &mut self.places);
+        }
+    }
+}
+
+// The activities that are due, which are all that are enabled, fire in turn. A ledger is lent by the caller, as bytes: `start` of its
+// records are tokens.
 fn in_turn(
     graph: &[u8],
     tables: &Tables,
-    links: &mut Links,
-    flags: &mut Flags,
+    store: &mut Store,
     ledger: &mut [u8],
     cells: &mut [u8],
-    places: &[u16; 2048],
-    count: usize,
+    due: &Due,
     start: usize,
 ) -> Progress
     requires { Prepared graph.now tables.now
-        × Running (graph_of graph.now) tables.now links.old flags.old ledger.old cells.old start
-        × PlacesIn count flags.old places.now
-        × (0 < count) }
-    ensures { FiredAs result.outcome (graph_of graph.now) tables.now links.new flags.new ledger.new
+        × Running (graph_of graph.now) tables.now store.old.links store.old.flags ledger.old cells.old start
+        × PlacesIn due.now.count store.old.flags due.now.places
+        × (0 < due.now.count) }
+    ensures { FiredAs result.outcome (graph_of graph.now) tables.now store.new.links store.new.flags ledger.new
         cells.new result.firings result.tokens result.spent start ledger.old cells.old }
 {
     let mut used = start;
     let mut spent = 0;
-    for firings in 0..count {
-        let place = places[firings] as usize;
+    for firings in 0..due.count {
+        let place = due.places[firings] as usize;
         spent += operands_at(tables, ledger, place);
-        let fired = fire::fire(graph, tables, links, flags, ledger, cells, used, place);
+        let fired = fire::fire(graph, tables, &mut Plain, store, ledger, cells, used, place);
         match fired {
             Ok(n) => used = n,
             Err(r) => {
@@ -203,7 +216,7 @@ fn in_turn(
     }
     Progress {
         outcome: Outcome::Spent,
-        firings: count,
+        firings: due.count,
         tokens: used,
         spent,
     }
@@ -214,33 +227,28 @@ fn in_turn(
 fn step(
     graph: &[u8],
     tables: &Tables,
-    links: &mut Links,
-    flags: &mut Flags,
+    store: &mut Store,
     ledger: &mut [u8],
     cells: &mut [u8],
-    places: &mut [u16; 2048],
+    due: &mut Due,
     start: usize,
     live: usize,
 ) -> Result<Whole, Ended>
     requires { Prepared graph.now tables.now
-        × Running (graph_of graph.now) tables.now links.old flags.old ledger.old cells.old start
-        × (live ≡ unspent_at (graph_of graph.now) tables.now ledger.old cells.old start)
-        × (length places.old ≡ 2048) }
-    ensures step_done { StepDone result (graph_of graph.now) tables.now links.new flags.new ledger.new
+        × Running (graph_of graph.now) tables.now store.old.links store.old.flags ledger.old cells.old start
+        × (live ≡ unspent_at (graph_of graph.now) tables.now ledger.old cells.old start) }
+    ensures { StepDone result (graph_of graph.now) tables.now store.new.links store.new.flags ledger.new
         cells.new start ledger.old cells.old }
-    ensures places_len { length places.new ≡ 2048 }
 {
-    let count = enabled_places(flags, places);
-    if count == 0 {
+    due.fill(&store.flags);
+    if due.count == 0 {
         return Err(Ended {
             outcome: ending::ending(tables, ledger, start),
             firings: 0,
             tokens: start,
         });
     }
-    let done = in_turn(
-        graph, tables, links, flags, ledger, cells, places, count, start,
-    );
+    let done = in_turn(graph, tables, store, ledger, cells, due, start);
     let outcome = done.outcome;
     let firings = done.firings;
     let tokens = done.tokens;
@@ -274,15 +282,14 @@ fn answered(outcome: Outcome, firings: usize, tokens: usize, records: usize) -> 
 fn proceed(
     graph: &[u8],
     tables: &Tables,
-    links: &mut Links,
-    flags: &mut Flags,
+    store: &mut Store,
     ledger: &mut [u8],
     cells: &mut [u8],
     profile: &mut [u8],
     start: usize,
 ) -> Profiled
     requires { Prepared graph.now tables.now
-        × Running (graph_of graph.now) tables.now links.old flags.old ledger.old cells.old start
+        × Running (graph_of graph.now) tables.now store.old.links store.old.flags ledger.old cells.old start
         × (start ≡ unspent_at (graph_of graph.now) tables.now ledger.old cells.old start) }
     ensures { ProfiledTo
         (profile_from (graph_of graph.now) (length profile.old / step_width) 0 tables.now ledger.old
@@ -290,22 +297,15 @@ fn proceed(
         profile.new }
 {
     let room = profile.len() / WIDTH;
-    let mut places = [0u16; 2048];
+    let mut due = Due {
+        places: [0; 2048],
+        count: 0,
+    };
     let mut used = start;
     let mut unspent = start;
     let mut firings = 0;
     for records in 0..room {
-        let ended = step(
-            graph,
-            tables,
-            links,
-            flags,
-            ledger,
-            cells,
-            &mut places,
-            used,
-            unspent,
-        );
+        let ended = step(graph, tables, store, ledger, cells, &mut due, used, unspent);
         match ended {
             Ok(whole) => {
                 put_record(profile, records, whole.firings, whole.unspent);
@@ -318,7 +318,7 @@ fn proceed(
             }
         }
     }
-    let outcome = no_record(tables, flags, ledger, used);
+    let outcome = no_record(tables, &store.flags, ledger, used);
     answered(outcome, firings, used, room)
 }
 
@@ -339,21 +339,17 @@ fn accepted(
         ledger.old cells.old profile.old ledger.new cells.new profile.new }
 {
     let mut tables = [0u16; store_enabled::TABLES_LENGTH];
-    let mut links = [0u16; store_chains::LENGTH];
-    let mut flags = Flags::new();
+    let mut store = Store::new();
     let used = start::begin(
         graph,
         arrays,
         inputs,
         &mut tables,
-        &mut links,
-        &mut flags,
+        &mut store,
         ledger,
         cells,
     );
-    proceed(
-        graph, &tables, &mut links, &mut flags, ledger, cells, profile, used,
-    )
+    proceed(graph, &tables, &mut store, ledger, cells, profile, used)
 }
 
 // A profile over lent bytes: its answer, and what it leaves in ledger, cells and profile, are what the rules give.

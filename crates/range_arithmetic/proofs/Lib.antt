@@ -1,2 +1,2 @@
--- Laws of operations over ranges in code. Assumes nothing.
-pub mod ByZero
+-- The laws of the arithmetic over ranges. Assumes nothing.
+pub mod InBits

@@ -60,6 +60,7 @@ fn maybe_equal(a: Range, b: Range) -> bool
     a.low <= b.high && b.low <= a.high
 }
 
+#[tactic(auto, unfolding(arithmetic::specs::Ranges::equalities))]
 fn equalities(a: Range, b: Range) -> Option<Range>
     ensures { result ≡ in_bits (Ranges.equalities a b) }
 {
@@ -69,34 +70,12 @@ fn equalities(a: Range, b: Range) -> Option<Range>
     )
 }
 
-pub fn magnitude(x: i32) -> u32
-    ensures { result ≡ nat_abs x }
-{
-    if 0 <= x {
-        return x as u32;
-    }
-    ((!x) as u32) + 1
-}
-
 // One less than the divisor's largest magnitude.
 fn most_remainder(b: Range) -> i64
     ensures { result ≡ pos (max (nat_abs b.low) (nat_abs b.high) - 1) }
 {
-    let l = magnitude(b.low);
-    let h = magnitude(b.high);
-    if l <= h {
-        return less_one(h);
-    }
-    less_one(l)
-}
-
-fn less_one(m: u32) -> i64
-    ensures { result ≡ pos (m - 1) }
-{
-    if m == 0 {
-        return 0;
-    }
-    (m - 1) as i64
+    let most = b.low.unsigned_abs().max(b.high.unsigned_abs());
+    i64::from(most.saturating_sub(1))
 }
 
 fn both_single(a: Range, b: Range) -> bool
@@ -106,6 +85,7 @@ fn both_single(a: Range, b: Range) -> bool
 }
 
 // Exact of two single values; else by the dividend's signs and the divisor's largest magnitude.
+#[tactic(auto, unfolding(arithmetic::specs::Ranges::remainders, arithmetic::specs::Ranges::outcome))]
 fn remainders(a: Range, b: Range) -> Option<Range>
     ensures { result ≡ in_bits (Ranges.remainders a b) }
 {
@@ -138,16 +118,7 @@ fn up_to(high: i32, m: i64) -> i64
 fn divides(op: Arithmetic) -> bool
     ensures { result ≡ Ranges.divides op }
 {
-    match op {
-        Arithmetic::Add => false,
-        Arithmetic::Sub => false,
-        Arithmetic::Mul => false,
-        Arithmetic::Div => true,
-        Arithmetic::Rem => true,
-        Arithmetic::Lt => false,
-        Arithmetic::Le => false,
-        Arithmetic::Eq => false,
-    }
+    matches!(op, Arithmetic::Div | Arithmetic::Rem)
 }
 
 // The divisor may be 0.
@@ -160,19 +131,16 @@ fn by_zero(op: Arithmetic, b: Range) -> bool
 fn of_outcomes(op: Arithmetic, a: Range, b: Range) -> Option<Range>
     ensures { result ≡ in_bits (Ranges.outcomes op a b) }
 {
+    // The operation is data of the graph: a match, and no table of functions, which would hand out function pointers.
     match op {
-        Arithmetic::Add => at_corners(op, a, b),
-        Arithmetic::Sub => at_corners(op, a, b),
-        Arithmetic::Mul => at_corners(op, a, b),
-        Arithmetic::Div => at_corners(op, a, b),
         Arithmetic::Rem => remainders(a, b),
-        Arithmetic::Lt => at_corners(op, a, b),
-        Arithmetic::Le => at_corners(op, a, b),
         Arithmetic::Eq => equalities(a, b),
+        _ => at_corners(op, a, b),
     }
 }
 
 // What an operation gives of two ranges: None (refusal 12) if an outcome is out of range or the divisor may be 0.
+#[tactic(auto, unfolding(arithmetic::specs::Ranges::range_of))]
 pub fn range(op: Arithmetic, a: Range, b: Range) -> Option<Range>
     ensures { result ≡ range_of op a b }
 {

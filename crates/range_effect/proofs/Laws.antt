@@ -37,14 +37,13 @@ use Rattle.fire_effect.specs.declared.operate.Action.{Action}
 use Rattle.fire_effect.specs.Effects.{Arrives, AllSent, operated_of, new_tags_of, then_tags}
 use Rattle.fire_effect.proofs.Arrives.{all_arrive}
 use Rattle.fire_effect.proofs.Parted.{parted}
-use Rattle.range_table.specs.Table.{table_of}
 use Rattle.range_effect.specs.Asked.{Ask, as_is_ask, only_if, new_ask, ask_of, AsksFor}
 
 -- ---- what the code's answer asks for
 
 -- nothing is added
-pub asks_as_is : (x : Result Action Refusal) (table : List ℕ) (n : ℕ) → AsksFor (record { operated = x; count = n }) (as_is_ask x) table table n
-asks_as_is x table n = record { operated = refl; held = sym (append-nil (table_of n table)); size = refl }
+pub asks_as_is : (x : Result Action Refusal) (table : List Range) → AsksFor x (as_is_ask x) table table
+asks_as_is x table = record { operated = refl; held = sym (append-nil table) }
 
 -- ---- in two
 

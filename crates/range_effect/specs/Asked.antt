@@ -13,8 +13,6 @@ use Rattle.rules.specs.declared.answer.Refusal.{Refusal}
 use Rattle.fire_effect.specs.declared.operate.Action.{Action}
 use Rattle.fire_effect.specs.declared.operate.Action.TheVariants.{Send}
 use Rattle.fire_effect.specs.Effects.{operated_of}
-use Rattle.range_table.specs.Table.{table_of}
-use Rattle.range_effect.specs.declared.Asked as Code
 
 pub record Ask : Type 0 where
   pub operated : Result Action Refusal
@@ -50,7 +48,6 @@ ask_of (Operations.OnConstant o) table k cells t a b = new_ask t (range_of o (me
 ask_of Operations.Unknown table k cells t a b = as_is_ask (operated_of Operations.Unknown table k cells a b)
 
 -- the code's answer asks for it, and its table has what is added
-pub record AsksFor (r : Code.Asked) (x : Ask) (table table' : List ℕ) (n : ℕ) : Type 0 where
-  pub operated : r.operated ≡ x.operated
-  pub held : table_of r.count table' ≡ table_of n table ++ x.added
-  pub size : length table' ≡ length table
+pub record AsksFor (r : Result Action Refusal) (x : Ask) (table table' : List Range) : Type 0 where
+  pub operated : r ≡ x.operated
+  pub held : table' ≡ table ++ x.added

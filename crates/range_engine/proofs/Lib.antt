@@ -1,5 +1,4 @@
--- The laws of a range run over handles. Assumes nothing.
-pub mod Stepping
-pub mod Looping
+-- The laws of a range run. Assumes nothing.
+pub mod Handles
 pub mod Telling
 pub mod Writing

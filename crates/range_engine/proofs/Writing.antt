@@ -1,4 +1,4 @@
--- From a run over handles to what a range run leaves: as ranges (`as_ranges`), settled by the order (`left_by`), from inputs (`told_first`), in bytes (`written_as`),
+-- From a run over handles to what a range run leaves: as ranges (`as_ranges`), of the engine's loop (`loop_tells`), from inputs (`told_first`), in bytes (`written_as`),
 -- and that checked inputs as handles stand for the range run's first state (`inputs_stand`). Assumes nothing.
 use Rattle.std.proofs.Common.{Ok, Err}
 use Prim.Native.Nat.{ℕ, ◌+◌, ◌-◌, ◌*◌, ◌/◌, ◌%◌, ◌≤◌}
@@ -35,124 +35,113 @@ use Rattle.rules.specs.Bounded.{and_bound}
 use Rattle.rules.specs.InstructionSet.{machine_of}
 use Rattle.rules.specs.Run.{picks_of, token_held, cell_held, first_state}
 use Rattle.rules.specs.RangeSet.{range_machine_of}
-use Rattle.rules.specs.RangeRun.{encode_range, encode_range_cell, range_capacity_of, check_range_stores, check_range_inputs, check_ranges, first_ranges, refused_at_once, ranges_unless_failed, range_result}
+use Rattle.rules.specs.RangeRun.{encode_range, encode_range_cell, range_in, range_capacity_of, check_range_stores, check_range_inputs, check_ranges, first_ranges, refused_at_once, ranges_unless_failed, range_result}
 use Rattle.rules.specs.RangeHandles.{meaning, first_table, first_handles, handle_run}
 use Rattle.rules.proofs.Passed.{and_then_passed}
 use Rattle.check_fields.proofs.Turns.{and_true_left, and_true_right, demanded}
 use Rattle.checks.proofs.Passed.{passed_arrays}
 use Rattle.rules.proofs.Ranges.{same_fields}
 use Rattle.rules.proofs.RangeHandles.{handle_run_lem}
-use Rattle.abstraction.specs.Tables.{Arities, arrays_in}
+use Rattle.abstraction.specs.Tables.{arrays_in}
 use Rattle.store.proofs.Laws.{matching_room}
 use Rattle.fire_outputs.specs.Outputs.{cells_in}
 use Rattle.fire.specs.Running.{state_in}
 use Rattle.start.specs.Begun.{Accepted, Begun}
 use Rattle.engine.specs.declared.choice.Order.{Order}
 use Rattle.engine.specs.declared.choice.Order.TheVariants.{Oldest, Picks, Log, Free}
-use Rattle.engine.specs.Turns.{chooser_for, ByPicks, ByBound, Bounding, Proceeded}
-use Rattle.engine.proofs.Bounding.{SettledBy, settled_end}
-use Rattle.range_table.specs.Table.{table_of}
+use Rattle.engine.specs.Turns.{chooser_for, ByPicks, ByBound, Proceeded}
+use Rattle.engine.specs.Keeping.{Kept, end_keeping, settled_by}
 use Rattle.range_inputs.specs.Handles.{handles_of, check_proper, Narrow}
 use Rattle.range_inputs.proofs.Rows.{fields_each, handles_count}
 use Rattle.range_inputs.proofs.First.{first_state_lem}
 use Rattle.range_output.specs.Left.{tokens_meant, cells_meant}
-use Rattle.range_engine.specs.declared.turns.Ran.{Ran}
-use Rattle.range_engine.specs.Over.{end_over, settled_over, range_end, RanOver, AsRanges, Fits, StandsFor, Tells, own_bytes, store_bytes, AsManyHandles, LeftAs, Leaves, LentToRanges, with_inputs, ranges_lent_checked}
+use Rattle.range_fire.specs.Ranges.{ranges_ask, ranges_keep}
+use Rattle.range_engine.specs.Over.{end_over, settled_over, range_end, AsRanges, Fits, StandsFor, Tells, own_bytes, store_bytes, AsManyHandles, LeftAs, Leaves, LentToRanges, with_inputs, ranges_lent_checked}
+use Rattle.range_engine.proofs.Handles.{end_handles}
 use Rattle.range_engine.proofs.Telling.{told_plain, told_bounded}
 
 -- ---- as ranges
 
-module _ (r : Ran) (E : End Refusal Tag Range) (x : Tabled Refusal Tag Range ℤ) {g : List Instruction} {tables links flags ledger' cells' : List ℕ} (table' : List ℕ) {used : ℕ} {ledger cells : List ℕ}
-    (p : Proceeded x.ended r.answer g tables links flags ledger' cells' used ledger cells) (tabled : x.table ≡ table_of r.count table')
+module _ (r : Answer) (E : End Refusal Tag Range) (x : Tabled Refusal Tag Range ℤ) {g : List Instruction} {tables links flags ledger' cells' : List ℕ} (table' : List Range) {used : ℕ} {ledger cells : List ℕ}
+    (p : Proceeded x.ended r g tables links flags ledger' cells' used ledger cells) (tabled : x.table ≡ table')
     (told : E ≡ record { outcome = x.ended.outcome; firings = x.ended.firings; state = state_by (meaning x.table) x.ended.state }) where
   abbrev here : End Refusal Tag Range
-  here = record { outcome = p.outcome; firings = r.answer.firings; state = state_by (meaning (table_of r.count table')) (state_in ledger' cells' r.answer.tokens) }
+  here = record { outcome = p.outcome; firings = r.firings; state = state_by (meaning table') (state_in ledger' cells' r.tokens) }
 
   same : E ≡ here
   same = told ∙ (λ i. record { outcome = (p.ends i).outcome; firings = (p.ends i).firings; state = state_by (meaning (tabled i)) (p.ends i).state })
 
-  size : length here.state.tokens ≡ r.answer.tokens
+  size : length here.state.tokens ≡ r.tokens
   size =
-      length-map (map token_held (tokens r.answer.tokens ledger')) (changed_to (meant_content (meaning (table_of r.count table'))))
-      ∙ length-map (tokens r.answer.tokens ledger') token_held ∙ length_rows token_width Tokens.decode_token r.answer.tokens ledger'
+      length-map (map token_held (tokens r.tokens ledger')) (changed_to (meant_content (meaning table')))
+      ∙ length-map (tokens r.tokens ledger') token_held ∙ length_rows token_width Tokens.decode_token r.tokens ledger'
 
   pub as_ranges : AsRanges E r ledger' cells' table'
   as_ranges = subst (λ (e : End Refusal Tag Range). AsRanges e r ledger' cells' table') (sym same)
-      (record { answered = λ i. record { outcome = sym p.told i; firings = r.answer.firings; tokens = sym size i }; state = refl })
-
-fits_left : {x : Tabled Refusal Tag Range ℤ} {r : Ran} {a : Answer} {g : List Instruction} {tables links flags ledger' cells' table' : List ℕ} {used : ℕ} {ledger cells table : List ℕ} {e : End Refusal Tag ℤ}
-    → RanOver x r g tables links flags ledger' cells' table' used ledger cells table → Proceeded e a g tables links flags ledger' cells' used ledger cells → Fits (record { answer = a; count = r.count }) ledger' cells' table' ledger cells table
-fits_left o p = record { few = o.few; room = matching_room p.running.matching; size = p.size; cell_size = p.cell_size; table_size = o.size }
+      (record { answered = λ i. record { outcome = sym p.told i; firings = r.firings; tokens = sym size i }; state = refl })
 
 -- ---- from state to state
 
-tells_plain : (order : Order) (picks : List ℕ) → ByPicks order picks → (g : List Instruction) (tables links flags ledger' cells' table' ledger cells table : List ℕ) (used budget count : ℕ) (r : Ran)
-    → RanOver (end_over order picks g tables ledger cells used budget (table_of count table)) r g tables links flags ledger' cells' table' used ledger cells table
-    → Tells 0 picks budget g (arrays_in tables) (length ledger / token_width) (length cells / cell_width) (table_of count table) (state_in ledger cells used) r ledger' cells' table'
-tells_plain order picks by g tables links flags ledger' cells' table' ledger cells table used budget count r o s h =
-    let p = length ledger / token_width in
-    let q = length cells / cell_width in
-    as_ranges r (range_end 0 picks budget g (arrays_in tables) p q s) (end_over order picks g tables ledger cells used budget (table_of count table)) table' o.proceeded o.tabled
-    (told_plain g (arrays_in tables) p q (picks_of picks) (table_of count table) s (state_in ledger cells used) h budget (chooser_for order picks g tables ledger cells) (by g (arrays_in tables) p q))
-
-tells_bounded : (k : ℕ) (picks : List ℕ) (g : List Instruction) (tables links flags ledger' cells' table' ledger cells table : List ℕ) (used budget count : ℕ) (r : Ran)
-    → RanOver (end_over (Free k) picks g tables ledger cells used budget (table_of count table)) r g tables links flags ledger' cells' table' used ledger cells table
-    → (a : Answer) → Proceeded (settled_over k g tables ledger cells (end_over (Free k) picks g tables ledger cells used budget (table_of count table))).ended a g tables links flags ledger' cells' used ledger cells
-    → Tells k picks budget g (arrays_in tables) (length ledger / token_width) (length cells / cell_width) (table_of count table) (state_in ledger cells used) (record { answer = a; count = r.count }) ledger' cells' table'
-tells_bounded k picks g tables links flags ledger' cells' table' ledger cells table used budget count r o a p s h =
-    let m = length ledger / token_width in
-    let q = length cells / cell_width in
-    as_ranges (record { answer = a; count = r.count }) (range_end k picks budget g (arrays_in tables) m q s) (settled_over k g tables ledger cells (end_over (Free k) picks g tables ledger cells used budget (table_of count table))) table' p o.tabled
-    (told_bounded g (arrays_in tables) m q (picks_of picks) (table_of count table) s (state_in ledger cells used) h budget k)
-
 -- by an order, which has the bound or, where it is 0, none
-module _ (picks : List ℕ) (k : ℕ) (g : List Instruction) (tables links flags held ledger' cells' table' ledger cells table nexts marks : List ℕ) (used budget count : ℕ) (r : Ran) (a : Answer) (right : Arities g tables) where
-  abbrev Left : ℕ → Answer → Type 0
-  Left n b =
-      Tells n picks budget g (arrays_in tables) (length ledger / token_width) (length cells / cell_width) (table_of count table) (state_in ledger cells used) (record { answer = b; count = r.count }) ledger' cells' table'
-      × Fits (record { answer = b; count = r.count }) ledger' cells' table' ledger cells table
+module _ (picks : List ℕ) (k : ℕ) (g : List Instruction) (tables links flags ledger' cells' : List ℕ) (table' : List Range) (ledger cells : List ℕ) (used budget : ℕ) (t : List Range) (r : Answer) where
+  abbrev over : Order → Tabled Refusal Tag Range ℤ
+  over order = end_over order picks g tables ledger cells used budget t
 
-  as_it_ended : (order : Order) → (k ≡ 0) × ByPicks order picks → RanOver (end_over order picks g tables ledger cells used budget (table_of count table)) r g tables links flags ledger' cells' table' used ledger cells table → a ≡ r.answer → Left k a
-  as_it_ended order by o h =
-      subst (λ (n : ℕ). Left n a) (sym by.0)
-      (subst (λ (b : Answer). Left 0 b) (sym h) (tells_plain order picks by.1 g tables links flags ledger' cells' table' ledger cells table used budget count r o, fits_left o o.proceeded))
+  abbrev Told : ℕ → Type 0
+  Told n = Tells n picks budget g (arrays_in tables) (length ledger / token_width) (length cells / cell_width) t (state_in ledger cells used) r ledger' cells' table'
 
-  pub left_by_lem : (order : Order) → ByBound order picks k → RanOver (end_over order picks g tables ledger cells used budget (table_of count table)) r g tables links flags ledger' cells' table' used ledger cells table
-      → Bounding order g tables flags ledger' r.answer.tokens nexts held marks → SettledBy order tables flags held ledger' r.answer a → Left k a
-  left_by_lem Oldest by o b h = as_it_ended Oldest by o h
-  left_by_lem Picks by o b h = as_it_ended Picks by o h
-  left_by_lem Log by o b h = as_it_ended Log by o h
-  left_by_lem (Free j) by o b h =
-      let p = settled_end g j tables links flags held ledger' cells' ledger cells used _ r.answer a right o.proceeded b.kept.decided h in
-      subst (λ (n : ℕ). Left n a) by.0 (tells_bounded j picks g tables links flags ledger' cells' table' ledger cells table used budget count r o a p, fits_left o p)
+  tells_plain : (order : Order) → (k ≡ 0) × ByPicks order picks → Proceeded (over order).ended r g tables links flags ledger' cells' used ledger cells → (over order).table ≡ table' → Told k
+  tells_plain order by p tabled =
+      let m = length ledger / token_width in
+      let q = length cells / cell_width in
+      subst Told (sym by.0)
+      (λ s h. as_ranges r (range_end 0 picks budget g (arrays_in tables) m q s) (over order) table' p tabled
+      (told_plain g (arrays_in tables) m q (picks_of picks) t s (state_in ledger cells used) h budget (chooser_for order picks g tables ledger cells) (by.1 g (arrays_in tables) m q)))
+
+  tells_bounded : (j : ℕ) → Proceeded (settled_over j g tables ledger cells (over (Free j))).ended r g tables links flags ledger' cells' used ledger cells → (over (Free j)).table ≡ table' → Told j
+  tells_bounded j p tabled s h =
+      let m = length ledger / token_width in
+      let q = length cells / cell_width in
+      as_ranges r (range_end j picks budget g (arrays_in tables) m q s) (settled_over j g tables ledger cells (over (Free j))) table' p tabled
+      (told_bounded g (arrays_in tables) m q (picks_of picks) t s (state_in ledger cells used) h budget j)
+
+  told_by : (order : Order) → ByBound order picks k → Proceeded (settled_by order g tables ledger cells (over order).ended) r g tables links flags ledger' cells' used ledger cells → (over order).table ≡ table' → Told k
+  told_by Oldest by p tabled = tells_plain Oldest by p tabled
+  told_by Picks by p tabled = tells_plain Picks by p tabled
+  told_by Log by p tabled = tells_plain Log by p tabled
+  told_by (Free j) by p tabled = subst Told by.0 (tells_bounded j p tabled)
+
+  -- the engine's loop by the operation over ranges
+  pub loop_tells : (order : Order) → ByBound order picks k
+      → Proceeded (settled_by order g tables ledger cells (end_keeping ranges_ask ranges_keep order picks g tables ledger cells used budget t).ended) r g tables links flags ledger' cells' used ledger cells
+      → table' ≡ (end_keeping ranges_ask ranges_keep order picks g tables ledger cells used budget t).kept → Told k
+  loop_tells order by p kept =
+      let same = end_handles order picks g tables ledger cells used budget t in
+      told_by order by
+      (subst (λ (e : End Refusal Tag ℤ). Proceeded (settled_by order g tables ledger cells e) r g tables links flags ledger' cells' used ledger cells) (ap (λ (x : Kept (List Range) Refusal Tag ℤ). x.ended) same) p)
+      (sym (kept ∙ ap (λ (x : Kept (List Range) Refusal Tag ℤ). x.kept) same))
+
+pub fits_left : {e : End Refusal Tag ℤ} {r : Answer} {g : List Instruction} {tables links flags ledger' cells' : List ℕ} {used : ℕ} {ledger cells : List ℕ}
+    → Proceeded e r g tables links flags ledger' cells' used ledger cells → Fits r ledger' cells' ledger cells
+fits_left p = record { room = matching_room p.running.matching; size = p.size; cell_size = p.cell_size }
 
 -- ---- from inputs
 
 module _ (graph arrays handles : List ℕ) {tables links flags ledger ledger₁ cells cells₁ : List ℕ} {used : ℕ} (b : Begun graph arrays handles tables links flags ledger ledger₁ cells cells₁ used) where
-  -- as many tokens as inputs
-  pub used_all : used ≡ length handles / token_width
-  unfolding first_state
-  used_all =
-      let first = ap (λ (s : State Tag ℤ). length s.tokens) b.state in
-      let now = length-map (tokens used ledger₁) token_held ∙ length_rows token_width Tokens.decode_token used ledger₁ in
-      let then = length-map (all_rows token_width Tokens.decode_token handles) token_held ∙ length_rows token_width Tokens.decode_token (length handles / token_width) handles in
-      omega (arith, first, now, then)
-
-  pub told_first : (k : ℕ) (picks : List ℕ) (budget : ℕ) (table : List ℕ) (r : Ran) (ledger' cells' table' : List ℕ)
-      → Tells k picks budget (graph_of graph) (arrays_in tables) (length ledger₁ / token_width) (length cells₁ / cell_width) (table_of (used + 1) table) (state_in ledger₁ cells₁ used) r ledger' cells' table'
-      → Tells k picks budget (graph_of graph) (arrays_of arrays) (length ledger / token_width) (length cells / cell_width) (table_of (length handles / token_width + 1) table) (first_state handles (length cells / cell_width)) r ledger' cells' table'
-  told_first k picks budget table r ledger' cells' table' h =
-      subst (λ (a : List NamedArray). T a (length ledger) (length cells) (length handles / token_width) first) b.named
-      (subst (λ (l : ℕ). T (arrays_in tables) l (length cells) (length handles / token_width) first) b.size
-      (subst (λ (c : ℕ). T (arrays_in tables) (length ledger₁) c (length handles / token_width) first) b.cell_size
-      (subst (λ (m : ℕ). T (arrays_in tables) (length ledger₁) (length cells₁) m first) used_all
-      (subst (λ (u : State Tag ℤ). T (arrays_in tables) (length ledger₁) (length cells₁) used u) b.state h))))
+  pub told_first : (k : ℕ) (picks : List ℕ) (budget : ℕ) (t : List Range) (r : Answer) (ledger' cells' : List ℕ) (table' : List Range)
+      → Tells k picks budget (graph_of graph) (arrays_in tables) (length ledger₁ / token_width) (length cells₁ / cell_width) t (state_in ledger₁ cells₁ used) r ledger' cells' table'
+      → Tells k picks budget (graph_of graph) (arrays_of arrays) (length ledger / token_width) (length cells / cell_width) t (first_state handles (length cells / cell_width)) r ledger' cells' table'
+  told_first k picks budget t r ledger' cells' table' h =
+      subst (λ (a : List NamedArray). T a (length ledger) (length cells) first) b.named
+      (subst (λ (l : ℕ). T (arrays_in tables) l (length cells) first) b.size
+      (subst (λ (c : ℕ). T (arrays_in tables) (length ledger₁) c first) b.cell_size
+      (subst (λ (u : State Tag ℤ). T (arrays_in tables) (length ledger₁) (length cells₁) u) b.state h)))
     where
       first : State Tag ℤ
       first = first_state handles (length cells / cell_width)
 
-      T : List NamedArray → (l c m : ℕ) → State Tag ℤ → Type 0
-      T a l c m u = Tells k picks budget (graph_of graph) a (l / token_width) (c / cell_width) (table_of (m + 1) table) u r ledger' cells' table'
+      T : List NamedArray → (l c : ℕ) → State Tag ℤ → Type 0
+      T a l c u = Tells k picks budget (graph_of graph) a (l / token_width) (c / cell_width) t u r ledger' cells' table'
 
 -- ---- in bytes
 
@@ -160,16 +149,16 @@ twice : {A B C : Type 0} (f : A → B) (h : B → C) (xs : List A) → map (λ x
 twice f h [] = refl
 twice f h (x ∷ xs) = ap (λ (l : List _). h (f x) ∷ l) (twice f h xs)
 
-pub written_as : (E : End Refusal Tag Range) (r : Ran) (own store table ledger cells ledger' cells' : List ℕ) → AsRanges E r own store table
-    → ledger' ≡ written_over encode_range (tokens_meant (table_of r.count table) (tokens r.answer.tokens own)) ledger
-    → cells' ≡ written_over encode_range_cell (cells_meant (table_of r.count table) (cells_in store)) cells
-    → LeftAs E r.answer ledger cells ledger' cells'
+pub written_as : (E : End Refusal Tag Range) (r : Answer) (own store : List ℕ) (table : List Range) (ledger cells ledger' cells' : List ℕ) → AsRanges E r own store table
+    → ledger' ≡ written_over encode_range (tokens_meant table (tokens r.tokens own)) ledger
+    → cells' ≡ written_over encode_range_cell (cells_meant table (cells_in store)) cells
+    → LeftAs E r ledger cells ledger' cells'
 written_as E r own store table ledger cells ledger' cells' a l c =
-    let m = meaning (table_of r.count table) in
+    let m = meaning table in
     record {
       answered = a.answered;
       ledger_left =
-          l ∙ ap (λ (ts : List (Token Tag Range)). written_over encode_range ts ledger) (twice token_held (changed_to (meant_content m)) (tokens r.answer.tokens own) ∙ sym (ap (λ (s : State Tag Range). s.tokens) a.state));
+          l ∙ ap (λ (ts : List (Token Tag Range)). written_over encode_range ts ledger) (twice token_held (changed_to (meant_content m)) (tokens r.tokens own) ∙ sym (ap (λ (s : State Tag Range). s.tokens) a.state));
       cells_left =
           c ∙ ap (λ (cs : List (Cell Range)). written_over encode_range_cell cs cells) (twice cell_held (cell_by m) (cells_in store) ∙ sym (ap (λ (s : State Tag Range). s.cells) a.state));
     }
@@ -192,18 +181,19 @@ accepted_in graph arrays handles own store ledger cells o s a =
     subst (λ (x : ℕ). Accepted graph arrays handles x store) (sym o) (subst (λ (y : ℕ). Accepted graph arrays handles (own_bytes ledger) y) (sym s) a)
 
 -- said of the lengths of the lent buffers
-pub leaves : (k : ℕ) (picks : List ℕ) (budget : ℕ) (graph arrays handles table : List ℕ) (own store ledger cells : List ℕ) (r : Ran) (own' store' table' ledger' cells' : List ℕ) → AsManyHandles (length own) (length store) (length ledger) (length cells)
-    → Tells k picks budget (graph_of graph) (arrays_of arrays) (length own / token_width) (length store / cell_width) (table_of (length handles / token_width + 1) table) (first_state handles (length store / cell_width)) r own' store' table'
-    → ledger' ≡ written_over encode_range (tokens_meant (table_of r.count table') (tokens r.answer.tokens own')) ledger
-    → cells' ≡ written_over encode_range_cell (cells_meant (table_of r.count table') (cells_in store')) cells
-    → Leaves k picks budget graph arrays handles table r.answer ledger cells ledger' cells'
-leaves k picks budget graph arrays handles table own store ledger cells r own' store' table' ledger' cells' many tells l c s h =
+pub leaves : (k : ℕ) (picks : List ℕ) (budget : ℕ) (graph arrays handles : List ℕ) (t : List Range) (own store ledger cells : List ℕ) (r : Answer) (own' store' : List ℕ) (table' : List Range) (ledger' cells' : List ℕ)
+    → AsManyHandles (length own) (length store) (length ledger) (length cells)
+    → Tells k picks budget (graph_of graph) (arrays_of arrays) (length own / token_width) (length store / cell_width) t (first_state handles (length store / cell_width)) r own' store' table'
+    → ledger' ≡ written_over encode_range (tokens_meant table' (tokens r.tokens own')) ledger
+    → cells' ≡ written_over encode_range_cell (cells_meant table' (cells_in store')) cells
+    → Leaves k picks budget graph arrays handles t r ledger cells ledger' cells'
+leaves k picks budget graph arrays handles t own store ledger cells r own' store' table' ledger' cells' many tells l c s h =
     written_as _ r own' store' table' ledger cells ledger' cells' (lent s h) l c
   where
-    lent : Tells k picks budget (graph_of graph) (arrays_of arrays) (range_capacity_of (length ledger)) (length cells / range_cell_width) (table_of (length handles / token_width + 1) table) (first_state handles (length cells / range_cell_width)) r own' store' table'
+    lent : Tells k picks budget (graph_of graph) (arrays_of arrays) (range_capacity_of (length ledger)) (length cells / range_cell_width) t (first_state handles (length cells / range_cell_width)) r own' store' table'
     lent =
-        subst (λ (p : ℕ). Tells k picks budget (graph_of graph) (arrays_of arrays) p (length cells / range_cell_width) (table_of (length handles / token_width + 1) table) (first_state handles (length cells / range_cell_width)) r own' store' table') many.tokens
-        (subst (λ (q : ℕ). Tells k picks budget (graph_of graph) (arrays_of arrays) (length own / token_width) q (table_of (length handles / token_width + 1) table) (first_state handles q) r own' store' table') many.cell_count tells)
+        subst (λ (p : ℕ). Tells k picks budget (graph_of graph) (arrays_of arrays) p (length cells / range_cell_width) t (first_state handles (length cells / range_cell_width)) r own' store' table') many.tokens
+        (subst (λ (q : ℕ). Tells k picks budget (graph_of graph) (arrays_of arrays) (length own / token_width) q t (first_state handles q) r own' store' table') many.cell_count tells)
 
 -- ---- the inputs
 
@@ -247,18 +237,22 @@ module _ (graph arrays inputs : List ℕ) (ledger cells : ℕ) (lent : LentToRan
     cell_records = (omega arith, omega (arith, lent.few_cells));
   }
 
-  module _ (table : List ℕ) (ranges : table_of (length inputs / range_token_width + 1) table ≡ first_table inputs) where
+  module _ (table : List Range) (ranges : table ≡ first_table inputs) where
     -- the handles stand for the first state over ranges
-    pub inputs_stand : (n : ℕ) → StandsFor (table_of (length (handles_of inputs) / token_width + 1) table) (first_ranges inputs n) (first_state (handles_of inputs) n)
+    pub inputs_stand : (n : ℕ) → StandsFor table (first_ranges inputs n) (first_state (handles_of inputs) n)
     inputs_stand n =
-        let t : first_table inputs ≡ table_of (length (handles_of inputs) / token_width + 1) table = sym ranges ∙ ap (λ (m : ℕ). table_of (m + 1) table) (sym (handles_count inputs)) in
-        subst (λ (x : List Range). StandsFor x (first_ranges inputs n) (first_state (handles_of inputs) n)) t
+        subst (λ (x : List Range). StandsFor x (first_ranges inputs n) (first_state (handles_of inputs) n)) (sym ranges)
         (subst (λ (u : State Tag ℤ). StandsFor (first_table inputs) (first_ranges inputs n) u) (sym (first_state_lem (graph_of graph) (range_capacity_of ledger) n inputs lent.few_inputs passed))
         (first_stands (graph_of graph) (range_capacity_of ledger) n inputs passed))
 
+    -- a range of each, and one for the value 0
+    pub ranges_few : length table ≤ length (handles_of inputs) / token_width + 1
+    unfolding first_table
+    ranges_few = omega (arith, ap length ranges, length_rows range_token_width range_in (length inputs / range_token_width) inputs, handles_count inputs)
+
 -- the buffer of the handles holds nothing else
-pub only_handles : (inputs handles handles' table table' : List ℕ) → length handles ≡ own_bytes (length inputs) → Narrow inputs handles handles' table table' → handles' ≡ handles_of inputs
-only_handles inputs handles handles' table table' e w =
+pub only_handles : (inputs handles handles' : List ℕ) (table : List Range) → length handles ≡ own_bytes (length inputs) → Narrow inputs handles handles' table → handles' ≡ handles_of inputs
+only_handles inputs handles handles' table e w =
     let short : length handles ≤ length inputs / range_token_width * token_width = omega (arith, e) in
     w.held ∙ ap (λ (l : List ℕ). handles_of inputs ++ l) (drop_of_length-le handles short) ∙ append-nil (handles_of inputs)
 

@@ -1,6 +1,6 @@
 -- Working definition: no public promise cites it.
--- A range run over handles, from turn to turn, and what it tells of the run over ranges. Assumes nothing.
-use Rattle.std.specs.Prelude.{ℕ, ◌+◌, ◌*◌, ◌/◌, ◌≤◌, ◌≡◌, List, [], ◌++◌, length, ℤ, pos, nat_abs, Ok}
+-- A range run over handles, and what it tells of the run over ranges. Assumes nothing.
+use Rattle.std.specs.Prelude.{ℕ, ◌*◌, ◌/◌, ◌≤◌, ◌≡◌, List, length, ℤ, pos, nat_abs, Ok}
 use Rattle.record.specs.declared.array.NamedArray.{NamedArray}
 use Rattle.record.specs.declared.tag.Tag.{Tag}
 use Rattle.record.specs.declared.instruction.Instruction.{Instruction}
@@ -13,7 +13,6 @@ use Rattle.arithmetic.specs.declared.Range.{Range}
 use Rattle.arithmetic.specs.Ranges.{single}
 use Rattle.machine.specs.Machine.{Machine, State, End, by_picks}
 use Rattle.machine.specs.Bounded.{settled, run_bounded}
-use Rattle.machine.specs.Choosers.{Chosen, on_chosen}
 use Rattle.machine.specs.InStep.{RelatedState}
 use Rattle.machine.specs.Handles.{StandsAt, state_by, Tabled, run_on}
 use Rattle.rules.specs.declared.answer.Refusal.{Refusal}
@@ -25,33 +24,13 @@ use Rattle.rules.specs.Held.{held_in}
 use Rattle.rules.specs.Bounded.{and_bound}
 use Rattle.rules.specs.RangeSet.{range_machine_of}
 use Rattle.rules.specs.RangeRun.{encode_range, encode_range_cell, range_capacity_of, check_range_stores, check_range_inputs, first_ranges, RangeResult, ran_to, ranges_unless_failed}
-use Rattle.rules.specs.RangeHandles.{StepHere, meaning, step_in}
+use Rattle.rules.specs.RangeHandles.{meaning, step_in}
 use Rattle.abstraction.specs.Tables.{arrays_in}
 use Rattle.fire.specs.Running.{machine_over, state_in}
 use Rattle.engine.specs.declared.choice.Order.{Order}
-use Rattle.engine.specs.Turns.{chooser_for, Turned, Proceeded}
-use Rattle.range_table.specs.Table.{pair_width, table_of}
-use Rattle.range_engine.specs.declared.turns.Taken.{Taken}
-use Rattle.range_engine.specs.declared.turns.Ran.{Ran}
-
--- ---- a turn
-
--- what the activity that is chosen adds to the table
-abbrev pub added_by : Chosen Refusal Tag → (Tag → StepHere) → List Range
-added_by chosen steps = on_chosen chosen (λ o. []) (λ a. (steps a.tag).added)
-
--- a turn of the engine in which an activity asks for what its step says; what is primed is left
-pub record TakenAs (r : Taken) (g : List Instruction) (chosen : Chosen Refusal Tag) (steps : Tag → StepHere) (tables links flags ledger' cells' table' : List ℕ) (used : ℕ) (ledger cells table : List ℕ) (count : ℕ) : Type 0 where
-  pub turned : Turned r.turn g chosen (λ τ. (steps τ).asked) tables links flags ledger' cells' used ledger cells
-  pub held : table_of r.count table' ≡ table_of count table ++ added_by chosen steps
-  pub size : length table' ≡ length table
+use Rattle.engine.specs.Turns.{chooser_for}
 
 -- ---- a run
-
--- the table has room for a range of each token, one for the value 0, and one of a firing that is refused
-pub record Room (table : List ℕ) (count used : ℕ) : Type 0 where
-  pub pairs : 2050 * pair_width ≤ length table
-  pub few : count ≤ used + 1
 
 abbrev pub range_machine_for : List Instruction → (tables ledger cells : List ℕ) → Machine
 range_machine_for g tables ledger cells = range_machine_of g (arrays_in tables) (length ledger / token_width) (length cells / cell_width)
@@ -66,13 +45,6 @@ end_over order source g tables ledger cells used budget t =
 abbrev pub settled_over : (bound : ℕ) → List Instruction → (tables ledger cells : List ℕ) → Tabled Refusal Tag Range ℤ → Tabled Refusal Tag Range ℤ
 settled_over k g tables ledger cells x = record { table = x.table; ended = settled (machine_over g tables ledger cells) (held_in g k) 0 x.ended }
 
--- a run left arrays, ledger, cells and table, and its answer tells its end
-pub record RanOver (x : Tabled Refusal Tag Range ℤ) (r : Ran) (g : List Instruction) (tables links flags ledger' cells' table' : List ℕ) (used : ℕ) (ledger cells table : List ℕ) : Type 0 where
-  pub proceeded : Proceeded x.ended r.answer g tables links flags ledger' cells' used ledger cells
-  pub tabled : x.table ≡ table_of r.count table'
-  pub few : r.count ≤ 2050
-  pub size : length table' ≡ length table
-
 -- ---- in ranges
 
 -- the end of a range run from a state, with a bound, which is none where it is 0
@@ -80,17 +52,15 @@ abbrev pub range_end : (bound : ℕ) → (picks : List ℕ) → (budget : ℕ) �
 range_end k picks budget g named capacity n s = let M = range_machine_of g named capacity n in run_bounded M (held_in g k) (by_picks M) budget (picks_of picks) 0 s
 
 -- the end of a range run, told by the answer and by ledger, cells and table
-pub record AsRanges (e : End Refusal Tag Range) (r : Ran) (ledger cells table : List ℕ) : Type 0 where
-  pub answered : r.answer ≡ record { outcome = outcome_of e.outcome; firings = e.firings; tokens = length e.state.tokens }
-  pub state : e.state ≡ state_by (meaning (table_of r.count table)) (state_in ledger cells r.answer.tokens)
+pub record AsRanges (e : End Refusal Tag Range) (r : Answer) (ledger cells : List ℕ) (table : List Range) : Type 0 where
+  pub answered : r ≡ record { outcome = outcome_of e.outcome; firings = e.firings; tokens = length e.state.tokens }
+  pub state : e.state ≡ state_by (meaning table) (state_in ledger cells r.tokens)
 
 -- buffers of these lengths hold it
-pub record Fits (r : Ran) (ledger' cells' table' ledger cells table : List ℕ) : Type 0 where
-  pub few : r.count ≤ 2050
-  pub room : r.answer.tokens ≤ length ledger' / token_width
+pub record Fits (r : Answer) (ledger' cells' ledger cells : List ℕ) : Type 0 where
+  pub room : r.tokens ≤ length ledger' / token_width
   pub size : length ledger' ≡ length ledger
   pub cell_size : length cells' ≡ length cells
-  pub table_size : length table' ≡ length table
 
 -- a state over handles stands for one over ranges; handle 0 is that of the single value 0
 pub record StandsFor (t : List Range) (s : State Tag Range) (u : State Tag ℤ) : Type 0 where
@@ -98,7 +68,7 @@ pub record StandsFor (t : List Range) (s : State Tag Range) (u : State Tag ℤ) 
   pub state : RelatedState (StandsAt nat_abs t) s u
 
 -- a run over handles from u, with the ranges t, tells the range run of every state for which u stands
-abbrev pub Tells : (bound : ℕ) → (picks : List ℕ) → (budget : ℕ) → List Instruction → List NamedArray → (capacity count : ℕ) → (t : List Range) → (u : State Tag ℤ) → Ran → (ledger cells table : List ℕ) → Type 0
+abbrev pub Tells : (bound : ℕ) → (picks : List ℕ) → (budget : ℕ) → List Instruction → List NamedArray → (capacity count : ℕ) → (t : List Range) → (u : State Tag ℤ) → Answer → (ledger cells : List ℕ) → (table : List Range) → Type 0
 Tells k picks budget g named capacity n t u r ledger cells table =
     (s : State Tag Range) → StandsFor t s u → AsRanges (range_end k picks budget g named capacity n s) r ledger cells table
 
@@ -123,10 +93,10 @@ pub record LeftAs (e : End Refusal Tag Range) (r : Answer) (ledger cells ledger'
   pub cells_left : cells' ≡ written_over encode_range_cell e.state.cells cells
 
 -- for every state over ranges for which the inputs as handles stand; the handles are plain inputs
-abbrev pub Leaves : (bound : ℕ) → (picks : List ℕ) → (budget : ℕ) → (graph arrays handles table : List ℕ) → Answer → (ledger cells ledger' cells' : List ℕ) → Type 0
+abbrev pub Leaves : (bound : ℕ) → (picks : List ℕ) → (budget : ℕ) → (graph arrays handles : List ℕ) → (table : List Range) → Answer → (ledger cells ledger' cells' : List ℕ) → Type 0
 Leaves k picks budget graph arrays handles table r ledger cells ledger' cells' =
     let n = length cells / range_cell_width in
-    (s : State Tag Range) → StandsFor (table_of (length handles / token_width + 1) table) s (first_state handles n)
+    (s : State Tag Range) → StandsFor table s (first_state handles n)
     → LeftAs (range_end k picks budget (graph_of graph) (arrays_of arrays) (range_capacity_of (length ledger)) n s) r ledger cells ledger' cells'
 
 -- everything but the inputs passed its check; ledger and cells by their lengths in bytes

@@ -1,28 +1,28 @@
 // A range run (02, R-11): the inputs become handles into a table of ranges, the engine's choices are fired over handles, and what is left is written as
-// ranges.
+// ranges. It shares the checks (`checks::check_lent`) and the loop (`engine::turns::from_inputs`) with a plain run. Its own: records of
+// other widths, and a ledger of handles.
 #![tactic(auto)]
 
-pub mod turns;
-
-ghost use Rattle.std.specs.Prelude.{◌*◌, ◌/◌, ◌+◌, ◌≤◌, ◌<◌, ◌≡◌, length};
+ghost use Rattle.std.specs.Prelude.{◌/◌, ◌+◌, ◌≤◌, ◌<◌, ◌≡◌, length};
 ghost use Rattle.record.specs.GraphRecords.{graph_of};
 ghost use Rattle.record.specs.Arrays.{arrays_of};
 ghost use Rattle.record.specs.Widths.{token_width, cell_width};
 ghost use Rattle.rules.specs.Run.{first_state};
 ghost use Rattle.rules.specs.RangeRun.{check_range_stores, RangesRan};
 ghost use Rattle.start.specs.Begun.{Accepted};
-ghost use Rattle.range_table.specs.Table.{pair_width, table_of};
 ghost use Rattle.range_engine.specs.Promise.{lent_to_run, left_by_run, RangesOn};
 ghost use Rattle.range_engine.specs.Over.{Tells, Fits, AsManyHandles, own_bytes, store_bytes, Leaves, LentToRanges, with_inputs, ranges_lent_checked};
 
-use crate::turns::{Going, Ran};
-use checks::{bound, stores};
+use checks::bound::Bounded;
+use checks::stores;
+use engine::{choice, turns};
+use range_fire::OverRanges;
 use record::{cell, token};
 use rules::answer;
 use rules::answer::{Answer, Fault, Refusal};
-use store_flags::Flags;
 
-// From the inputs as handles, in a ledger and cells of its own.
+// From the inputs as handles, in a ledger and cells of its own: the engine's loop, by the operation over ranges. It writes no log.
+// Down to here the parameters are those of the C interface, in its order, and what was made of them.
 fn over_handles(
     graph: &[u8],
     arrays: &[u8],
@@ -30,45 +30,22 @@ fn over_handles(
     picks: &[u8],
     budget: usize,
     bound: usize,
-    table: &mut [u8],
+    over: &mut OverRanges,
     ledger: &mut [u8],
     cells: &mut [u8],
-) -> Ran
-    requires { Accepted graph.now arrays.now handles.now (length ledger.old) (length cells.old) × (bound < 65536) × (2050 * pair_width ≤ length table.old) }
+) -> Answer
+    requires { Accepted graph.now arrays.now handles.now (length ledger.old) (length cells.old)
+        × (bound < 65536)
+        × (length over.old ≤ length handles.now / token_width + 1) }
     ensures tells { Tells bound picks.now budget (graph_of graph.now) (arrays_of arrays.now)
-        (length ledger.old / token_width) (length cells.old / cell_width)
-        (table_of (length handles.now / token_width + 1) table.old)
-        (first_state handles.now (length cells.old / cell_width)) result ledger.new cells.new table.new }
-    ensures fits { Fits result ledger.new cells.new table.new ledger.old cells.old table.old }
+        (length ledger.old / token_width) (length cells.old / cell_width) over.old
+        (first_state handles.now (length cells.old / cell_width)) result ledger.new cells.new over.new }
+    ensures fits { Fits result ledger.new cells.new ledger.old cells.old }
 {
-    let mut tables = [0u16; store_enabled::TABLES_LENGTH];
-    let mut links = [0u16; store_chains::LENGTH];
-    let mut flags = Flags::new();
-    let used = start::begin(
-        graph,
-        arrays,
-        handles,
-        &mut tables,
-        &mut links,
-        &mut flags,
-        ledger,
-        cells,
-    );
-    turns::proceed(
-        graph,
-        &tables,
-        picks,
-        bound,
-        table,
-        &mut links,
-        &mut flags,
-        ledger,
-        cells,
-        Going {
-            used,
-            count: used + 1,
-            budget,
-        },
+    let order = choice::order_under(picks, bound);
+    let mut none = [0u8; 0];
+    turns::from_inputs(
+        graph, arrays, handles, order, picks, budget, over, ledger, cells, &mut none,
     )
 }
 
@@ -80,7 +57,7 @@ fn written(
     picks: &[u8],
     budget: usize,
     bound: usize,
-    table: &mut [u8],
+    over: &mut OverRanges,
     own: &mut [u8],
     store: &mut [u8],
     ledger: &mut [u8],
@@ -88,17 +65,16 @@ fn written(
 ) -> Answer
     requires { Accepted graph.now arrays.now handles.now (length own.old) (length store.old)
         × (bound < 65536)
-        × (2050 * pair_width ≤ length table.old)
+        × (length over.old ≤ length handles.now / token_width + 1)
         × AsManyHandles (length own.old) (length store.old) (length ledger.old) (length cells.old) }
-    ensures { Leaves bound picks.now budget graph.now arrays.now handles.now table.old result
+    ensures { Leaves bound picks.now budget graph.now arrays.now handles.now over.old result
         ledger.old cells.old ledger.new cells.new }
 {
-    let ran = over_handles(
-        graph, arrays, handles, picks, budget, bound, table, own, store,
+    let a = over_handles(
+        graph, arrays, handles, picks, budget, bound, over, own, store,
     );
-    let a = ran.answer;
-    range_output::put_tokens(table, ran.count, own, a.tokens, ledger);
-    range_output::put_cells(table, ran.count, store, store.len() / cell::WIDTH, cells);
+    range_output::put_tokens(&over.table, own, a.tokens, ledger);
+    range_output::put_cells(&over.table, store, store.len() / cell::WIDTH, cells);
     a
 }
 
@@ -110,12 +86,14 @@ fn accepted(
     picks: &[u8],
     budget: usize,
     bound: usize,
-    table: &mut [u8],
+    over: &mut OverRanges,
     ledger: &mut [u8],
     cells: &mut [u8],
 ) -> Answer
-    requires { Accepted graph.now arrays.now handles.now (own_bytes (length ledger.old)) (store_bytes (length cells.old)) × (bound < 65536) × (2050 * pair_width ≤ length table.old) }
-    ensures { Leaves bound picks.now budget graph.now arrays.now handles.now table.old result
+    requires { Accepted graph.now arrays.now handles.now (own_bytes (length ledger.old)) (store_bytes (length cells.old))
+        × (bound < 65536)
+        × (length over.old ≤ length handles.now / token_width + 1) }
+    ensures { Leaves bound picks.now budget graph.now arrays.now handles.now over.old result
         ledger.old cells.old ledger.new cells.new }
 {
     let mut own = [0u8; 57344];
@@ -129,7 +107,7 @@ fn accepted(
         picks,
         budget,
         bound,
-        table,
+        over,
         &mut own[0..bytes],
         &mut store[0..cell_bytes],
         ledger,
@@ -146,25 +124,31 @@ fn handled(
     budget: usize,
     bound: usize,
     handles: &mut [u8],
-    table: &mut [u8],
     ledger: &mut [u8],
     cells: &mut [u8],
 ) -> Answer
     requires { LentToRanges graph.now arrays.now (length inputs.now) (length ledger.old) (length cells.old)
         × (bound < 65536)
-        × (length handles.old ≡ own_bytes (length inputs.now))
-        × (2050 * pair_width ≤ length table.old) }
+        × (length handles.old ≡ own_bytes (length inputs.now)) }
     ensures { RangesRan
         (with_inputs bound picks.now budget graph.now arrays.now inputs.now (length ledger.old)
         (length cells.old)) result ledger.old ledger.new cells.old cells.new }
 {
-    range_inputs::narrow(inputs, handles, table);
+    let table = range_inputs::narrow(inputs, handles);
     let capacity = ledger.len() / range_output::TOKEN_WIDTH;
     let checked = range_inputs::check(graph, inputs, handles, capacity);
     match checked {
         Err(fault) => answer::refused(fault),
         Ok(()) => accepted(
-            graph, arrays, handles, picks, budget, bound, table, ledger, cells,
+            graph,
+            arrays,
+            handles,
+            picks,
+            budget,
+            bound,
+            &mut OverRanges { table },
+            ledger,
+            cells,
         ),
     }
 }
@@ -186,7 +170,6 @@ fn with_inputs(
         (length cells.old)) result ledger.old ledger.new cells.old cells.new }
 {
     let mut handles = [0u8; 57344];
-    let mut table = [0u8; 16400];
     let bytes = inputs.len() / range_inputs::WIDTH * token::WIDTH;
     handled(
         graph,
@@ -196,7 +179,6 @@ fn with_inputs(
         budget,
         bound,
         &mut handles[0..bytes],
-        &mut table,
         ledger,
         cells,
     )
@@ -232,11 +214,14 @@ fn check_lent(
 ) -> Result<(), Fault>
     ensures { result ≡ ranges_lent_checked graph.now arrays.now inputs picks bound ledger cells }
 {
-    let of_stores = bound::check(check_stores(inputs, picks, ledger, cells), bound);
-    checks::check_lent(graph, arrays, of_stores, cells / range_output::CELL_WIDTH)
+    let lent = Bounded {
+        lent: check_stores(inputs, picks, ledger, cells),
+        bound,
+    };
+    checks::check_lent(graph, arrays, &lent, cells / range_output::CELL_WIDTH)
 }
 
-// A range run over lent bytes: its answer, and what it leaves in ledger and cells, are what the rules give. The bound is 0 for none.
+// A range run over lent bytes: its answer, and what it leaves in ledger and cells, are what the rules give. The bound is 0 for none, as in C.
 pub fn run_ranges(
     graph: &[u8],
     arrays: &[u8],

@@ -1,2 +1,2 @@
 -- The laws of a firing over handles. Assumes nothing.
-pub mod Steps
+pub mod Tried

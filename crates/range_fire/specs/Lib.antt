@@ -1,2 +1,3 @@
--- The definitions of a firing over handles. Assumes nothing.
+-- The definitions of a firing over handles, and that its operation is one for a firing. Assumes nothing.
 pub mod Tried
+pub mod Ranges

@@ -1,20 +1,26 @@
 -- The inputs as handles, row by row: how many bytes they are (`length_handles`), that each row has its input's fields (`fields_each`), that they grow at their end
 -- (`put_next`). Assumes nothing.
-use Prim.Native.Nat.{ℕ, zero, suc, ◌+◌, ◌*◌, ◌/◌}
+use Prim.Native.Nat.{ℕ, zero, suc, ◌+◌, ◌*◌, ◌/◌, ◌≤◌}
 use mathlib.Core.Path.{◌≡◌, refl, sym, ap, ◌∙◌}
 use mathlib.Core.List.{List, [], ◌∷◌, ◌++◌, append_assoc, append-nil}
 use native.Mathlib.Omega.{arith}
 use native.Mathlib.Nat.{suc-mul, zero-mul, add-zero, add_comm}
 use native.Mathlib.Numerals.{add-one}
-use lib.ListN.{length, drop, length-append}
-use lib.Seq.{take_at, drop-append-add, drop-drop}
+use lib.ListN.{length, take, drop, length-append}
+use lib.Seq.{drop-cons, take_at, drop-append-add, drop-drop}
+use Rattle.number.specs.Number.{byte_at}
 use Rattle.buffer.specs.Rows.{put_row, rows, all_rows}
 use Rattle.record.specs.Widths.{token_width, range_token_width}
 use Rattle.machine.specs.InStep.{PlaceByPlace, no_more, pair}
 use Rattle.rules.proofs.Ranges.{SameFields}
-use Rattle.range_inputs.specs.Handles.{handle_bytes, handles_from, handles_of}
+use Rattle.range_inputs.specs.Handles.{bytes_from, handle_bytes, handles_from, handles_of}
 
 -- ---- one row
+
+-- the bytes of a part, one by one
+pub front_bytes : (n k : ℕ) (l : List ℕ) → k + n ≤ length l → take n (drop k l) ≡ bytes_from n k l
+front_bytes zero k l h = refl
+front_bytes (suc n) k l h = rw (drop-cons l k 0 (omega arith)) (ap (λ (b : List ℕ). byte_at l k ∷ b) (front_bytes n (suc k) l (omega arith)))
 
 pub length_row : (h : ℕ) (l : List ℕ) → length (handle_bytes h l) ≡ token_width
 unfolding handle_bytes

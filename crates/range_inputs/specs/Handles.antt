@@ -1,15 +1,15 @@
 -- Working definition: no public promise cites it.
 -- The inputs of a range run as handles, in bytes. Assumes nothing.
-use Rattle.std.specs.Prelude.{ℕ, zero, suc, ◌+◌, ◌*◌, ◌/◌, ◌≤◌, ◌≡◌, List, [], ◌∷◌, ◌++◌, length, drop}
+use Rattle.std.specs.Prelude.{ℕ, zero, suc, ◌*◌, ◌/◌, ◌≤◌, ◌≡◌, List, [], ◌∷◌, ◌++◌, length, drop}
 use Rattle.number.specs.Number.{byte_at, bytes32}
 use Rattle.buffer.specs.Rows.{all_rows}
 use Rattle.record.specs.TokensAndTags.{most_tokens}
 use Rattle.record.specs.Widths.{token_width, value_offset, state_offset, range_token_width}
+use Rattle.arithmetic.specs.declared.Range.{Range}
 use Rattle.rules.specs.declared.answer.Refusal.TheVariants.{Undecided}
 use Rattle.rules.specs.Check.{demand, in_turn, Checked}
 use Rattle.rules.specs.RangeRun.{range_in, is_proper_range}
 use Rattle.rules.specs.RangeHandles.{first_table}
-use Rattle.range_table.specs.Table.{pair_width, table_of}
 
 -- n bytes of l from the place k on
 abbrev pub bytes_from : (n k : ℕ) → List ℕ → List ℕ
@@ -33,14 +33,12 @@ handles_of inputs = handles_from 1 (length inputs / range_token_width) inputs
 abbrev pub check_proper : (inputs : List ℕ) → Checked
 check_proper inputs = in_turn (λ i r. demand (is_proper_range r) Undecided i) 0 (all_rows range_token_width range_in inputs)
 
--- buffers of these lengths have room for the handles and the ranges of all inputs
-pub record RoomFor (inputs : List ℕ) (handles table : ℕ) : Type 0 where
+-- a buffer of this length has room for the handles of all inputs
+pub record RoomFor (inputs : List ℕ) (handles : ℕ) : Type 0 where
   pub few : length inputs / range_token_width ≤ most_tokens
   pub records : length inputs / range_token_width * token_width ≤ handles
-  pub pairs : (length inputs / range_token_width + 1) * pair_width ≤ table
 
 -- the handles stand in front, and every other byte stays; the table has the ranges
-pub record Narrow (inputs handles handles' table table' : List ℕ) : Type 0 where
+pub record Narrow (inputs handles handles' : List ℕ) (table : List Range) : Type 0 where
   pub held : handles' ≡ handles_of inputs ++ drop (length inputs / range_token_width * token_width) handles
-  pub ranges : table_of (length inputs / range_token_width + 1) table' ≡ first_table inputs
-  pub size : length table' ≡ length table
+  pub ranges : table ≡ first_table inputs

@@ -9,6 +9,7 @@ ghost use Rattle.rules.specs.RangeRun.{range_in, is_proper_range, check_range_in
 ghost use Rattle.range_inputs.specs.Handles.{handle_bytes, handles_of, check_proper, RoomFor, Narrow};
 
 use arithmetic::Range;
+use range_table::RangeTable;
 use record::token;
 use rules::answer::{Fault, Refusal};
 
@@ -53,50 +54,27 @@ fn narrowed(s: &[u8], handle: u32) -> [u8; token::WIDTH]
     requires { range_token_width ≤ length s.now }
     ensures { result ≡ handle_bytes handle s.now }
 {
-    [
-        s[0],
-        s[1],
-        s[2],
-        s[3],
-        s[4],
-        s[5],
-        s[6],
-        s[7],
-        s[8],
-        s[9],
-        s[10],
-        s[11],
-        s[12],
-        s[13],
-        s[14],
-        s[15],
-        s[16],
-        s[17],
-        s[18],
-        s[19],
-        (handle % 256) as u8,
-        (handle / 256 % 256) as u8,
-        (handle / 65536 % 256) as u8,
-        (handle / 65536 / 256 % 256) as u8,
-        s[24],
-        s[25],
-        s[26],
-        s[27],
-    ]
+    let mut row = [0; token::WIDTH];
+    let plain = &s[..token::WIDTH];
+    row.copy_from_slice(plain);
+    row[LOW..LOW + 4].copy_from_slice(&handle.to_le_bytes());
+    row
 }
 
-// The inputs as handles, and their ranges in the table: the single value 0, and then a range for each input.
-pub fn narrow(inputs: &[u8], handles: &mut [u8], table: &mut [u8])
-    requires { RoomFor inputs.now (length handles.old) (length table.old) }
-    ensures { Narrow inputs.now handles.old handles.new table.old table.new }
+// The inputs as handles, and the table of their ranges: the single value 0, and then a range for each input.
+pub fn narrow(inputs: &[u8], handles: &mut [u8]) -> RangeTable
+    requires { RoomFor inputs.now (length handles.old) }
+    ensures { Narrow inputs.now handles.old handles.new result }
 {
-    range_table::add(table, 0, Range { low: 0, high: 0 });
+    let mut table = RangeTable::new();
+    table.add(Range { low: 0, high: 0 });
     for i in 0..inputs.len() / WIDTH {
         let s = buffer::row_at(inputs, WIDTH, i);
-        let row = narrowed(s, (i + 1) as u32);
+        let handle = table.add(range_in(s));
+        let row = narrowed(s, number::bits(handle));
         buffer::put_row(handles, token::WIDTH, i, &row);
-        range_table::add(table, i + 1, range_in(s));
     }
+    table
 }
 
 // Refusals 6, 23, 8 and 9: `handles` are the inputs as handles. 6, 8 and 9 look at no value.

@@ -2,21 +2,18 @@
 -- are read in turn and put as what they mean (`Passed`). A range record has 32 bytes, and 12 if it is a cell's. Assumes nothing.
 use Prim.Native.Nat.{ℕ, zero, suc, ◌+◌, ◌*◌, ◌≤◌, ◌<◌}
 use mathlib.Core.Path.{◌≡◌, refl, sym, ap, ◌∙◌}
-use mathlib.Core.List.{List, [], ◌∷◌, ◌++◌, map}
+use mathlib.Core.List.{List, [], ◌∷◌, ◌++◌, map, append-nil}
 use native.Mathlib.Numerals.{add-one}
 use native.Mathlib.Omega.{arith}
-use native.Mathlib.Nat.{suc-mul, zero-mul}
+use native.Mathlib.Nat.{suc-mul, zero-mul, zero-add}
 use lib.ListN.{length, get_or, take, drop, length-append, length-drop, length-map}
-use lib.Seq.{take-suc, length-take-le, take_all, drop-drop}
-use Rattle.number.specs.Number.{byte_at}
+use lib.Seq.{drop-length, drop-append-add, take_at, take-suc, length-take-le, take_all, drop-drop}
 use Rattle.record.specs.declared.tag.Tag.{Tag}
-use Rattle.record.specs.declared.cell.Cell as RecordCell
-use Rattle.record.specs.declared.cell.Cell.TheVariants.{Absent, Waiting, Present}
 use Rattle.record.specs.Widths.{range_token_width, range_cell_width}
 use Rattle.record.specs.TokensAndTags as Tokens
 use Rattle.record.specs.Cells as Cells
 use Rattle.arithmetic.specs.declared.Range.{Range}
-use Rattle.buffer.specs.Rows.{put_row, rows, joined, written_over}
+use Rattle.buffer.specs.Rows.{written, put_row, rows, joined, written_over}
 use Rattle.buffer.proofs.Tables.{length_joined, put_end, length_rows, get_d_rows}
 use Rattle.machine.specs.Machine.{Token, Cell, absent, waiting, present}
 use Rattle.rules.specs.RangeRun.{encode_range, encode_range_cell}
@@ -91,11 +88,11 @@ length_cell absent = refl
 length_cell waiting = refl
 length_cell (present r) = refl
 
--- the bytes of a cell record one by one, and what follows them
-pub cell_elements : (c : RecordCell.Cell) (rest : List ℕ)
-    → byte_at (Cells.encode_cell c) 0 ∷ byte_at (Cells.encode_cell c) 1 ∷ byte_at (Cells.encode_cell c) 2 ∷ byte_at (Cells.encode_cell c) 3 ∷ byte_at (Cells.encode_cell c) 4 ∷ byte_at (Cells.encode_cell c) 5 ∷ byte_at (Cells.encode_cell c) 6 ∷ byte_at (Cells.encode_cell c) 7 ∷ rest
-    ≡ Cells.encode_cell c ++ rest
-unfolding Cells.encode_cell
-cell_elements Absent rest = refl
-cell_elements Waiting rest = refl
-cell_elements (Present v) rest = refl
+-- a record is written, and then what is behind it
+pub at_end : (zeros front behind : List ℕ) → length front + length behind ≡ length zeros → written (written zeros 0 front) (length front) behind ≡ front ++ behind
+unfolding written
+at_end zeros front behind e =
+    let rest = drop (length front) zeros in
+    let past : drop (length front + length behind) (front ++ rest) ≡ [] =
+    drop-append-add front rest (length behind) ∙ drop-drop (length behind) (length front) zeros ∙ ap (λ (k : ℕ). drop k zeros) e ∙ drop-length zeros in
+    rw (zero-add (length front), take_at front rest (length front) refl, past, append-nil behind) refl

@@ -1,2 +1,2 @@
--- The laws of the table of ranges. Assumes nothing.
-pub mod Pairs
+-- What the crates over the table of ranges share. Assumes nothing.
+pub mod Bytes

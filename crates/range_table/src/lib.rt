@@ -1,69 +1,69 @@
-// The table of a range run (02, R-11): pairs of a low and a high value, 8 bytes each. A token's value is the number of its pair, its
-// handle; entries are never changed, so that a handle keeps its meaning.
+// The table of a range run (02, R-11). A token's value is the number of its range in the table, its handle; ranges are never changed, so
+// that a handle keeps its meaning.
 #![tactic(auto)]
 
-ghost use Rattle.std.specs.Prelude.{◌+◌, ◌*◌, ◌≤◌, ◌≡◌, ◌++◌, length};
-ghost use Rattle.number.specs.Number.{bytes32};
-ghost use Rattle.arithmetic.specs.Ranges.{FitsBits};
+ghost use Rattle.std.specs.Prelude.{◌<◌, ◌≡◌, [], ◌∷◌, ◌++◌, length, pos};
 ghost use Rattle.rules.specs.RangeHandles as Handles;
-ghost use Rattle.range_table.specs.Table.{pair_width, pair_in, pair_bytes, table_of, AddedRange};
 
 use arithmetic::Range;
+use std::marker::Model;
 
-// The bytes of a pair.
-pub const WIDTH: usize = 8;
+// Room for a range of each token, one for the value 0, and one of a firing that is refused.
+pub const ROOM: usize = 2050;
 
-// The pair that s starts with.
-fn decode(s: &[u8]) -> Range
-    requires { pair_width ≤ length s.now }
-    ensures { result ≡ pair_in s.now }
-{
-    Range {
-        low: number::signed(number::u32_at(s, 0)),
-        high: number::signed(number::u32_at(s, 4)),
+// Clauses see the list of the ranges.
+#[derive(Drop)]
+pub struct RangeTable {
+    ranges: [Range; ROOM],
+    count: usize,
+}
+
+impl Model for RangeTable {
+    ghost use Rattle.std.specs.Prelude.{List, length, take, ◌≤◌, ◌≡◌};
+    ghost use Rattle.arithmetic.specs.declared.Range.{Range};
+
+    ghost Value = { List Range };
+
+    ghost view = { λ t. take t.count t.ranges };
+
+    ghost invariant = { λ t. (t.count ≤ 2050) × (length t.ranges ≡ 2050) };
+}
+
+impl RangeTable {
+    pub fn new() -> RangeTable
+        ensures { result ≡ [] }
+    {
+        RangeTable {
+            ranges: [Range { low: 0, high: 0 }; ROOM],
+            count: 0,
+        }
     }
-}
 
-// The bytes of two numbers.
-fn bytes_of(low: u32, high: u32) -> [u8; WIDTH]
-    ensures { result ≡ (bytes32 low ++ bytes32 high) }
-{
-    [
-        (low % 256) as u8,
-        (low / 256 % 256) as u8,
-        (low / 65536 % 256) as u8,
-        (low / 65536 / 256 % 256) as u8,
-        (high % 256) as u8,
-        (high / 256 % 256) as u8,
-        (high / 65536 % 256) as u8,
-        (high / 65536 / 256 % 256) as u8,
-    ]
-}
-
-fn encode(r: Range) -> [u8; WIDTH]
-    ensures { (result ≡ pair_bytes r) × FitsBits r }
-{
-    bytes_of(number::bits(r.low), number::bits(r.high))
-}
-
-// The pair for which a handle stands; past the table stands the single value 0.
-pub fn meaning(table: &[u8], count: usize, handle: i32) -> Range
-    requires { count * pair_width ≤ length table.now }
-    ensures { result ≡ Handles.meaning (table_of count table.now) handle }
-{
-    let n = range_arithmetic::magnitude(handle) as usize;
-    if n < count {
-        decode(buffer::row_at(table, WIDTH, n))
-    } else {
-        Range { low: 0, high: 0 }
+    pub fn as_slice(&self) -> &[Range]
+        ensures { result.now ≡ self.now }
+    {
+        &self.ranges[..self.count]
     }
-}
 
-// A new pair at the end of a table.
-pub fn add(table: &mut [u8], count: usize, r: Range)
-    requires { count * pair_width + pair_width ≤ length table.old }
-    ensures { AddedRange table.old table.new count r }
-{
-    let bytes = encode(r);
-    buffer::put_row(table, WIDTH, count, &bytes);
+    // The range for which a handle stands; past the table stands the single value 0.
+    pub fn meaning(&self, handle: i32) -> Range
+        ensures { result ≡ Handles.meaning self.now handle }
+    {
+        let n = handle.unsigned_abs() as usize;
+        match self.as_slice().get(n) {
+            Some(r) => *r,
+            None => Range { low: 0, high: 0 },
+        }
+    }
+
+    // A new range at the end, and its handle.
+    pub fn add(&mut self, r: Range) -> i32
+        requires { length self.old < 2050 }
+        ensures { (self.new ≡ self.old ++ r ∷ []) × (result ≡ pos (length self.old)) }
+    {
+        let handle = self.count as i32;
+        self.ranges[self.count] = r;
+        self.count += 1;
+        handle
+    }
 }

@@ -17,6 +17,7 @@ use Rattle.record.specs.declared.cell.Cell.{Cell}
 use Rattle.record.specs.declared.cell.Cell.TheVariants.{Absent, Waiting, Present}
 use Rattle.number.proofs.Numbers.{number16_bytes, number32_bytes, number64_bytes, fits16, fits32, fits64, number32_small, bytes16_number, bytes32_number, bytes64_number, bits_fit, signed_bits, bits_signed}
 use Rattle.buffer.proofs.Tables.{rows_put, rows_end, rows_joined}
+use Rattle.record.specs.ReadBack.{instruction_back, token_back, cell_back}
 use Rattle.record.specs.Codecs.{ProperRecord, ProperCell, Codecs}
 use Rattle.record.specs.Widths.{token_width, cell_width}
 
@@ -43,21 +44,6 @@ pub length_instruction : (r : Instruction) → length (Graph.encode_instruction 
 unfolding Graph.encode_instruction
 length_instruction r = refl
 
-pub instruction_back : (r : Instruction) (rest : List ℕ) → Graph.InstructionFits r → Graph.decode_instruction (Graph.encode_instruction r ++ rest) ≡ r
-unfolding Graph.encode_instruction Graph.decode_instruction
-instruction_back r rest f =
-    rw (
-      number16_bytes r.first.instruction [],
-      fits16 _ f.instruction1,
-      number16_bytes r.second.instruction [],
-      fits16 _ f.instruction2,
-      number32_bytes (bits_of r.constant) [],
-      fits32 _ (bits_fit _ f.constant),
-      signed_bits _ f.constant,
-      number32_bytes r.zeros [],
-      fits32 _ f.zeros,
-    )
-
 pub instruction_bytes_back : (l : List ℕ) → length l ≡ 16 → ((k : ℕ) → byte_at l k < 256) → Graph.encode_instruction (Graph.decode_instruction l) ≡ l
 unfolding Graph.encode_instruction Graph.decode_instruction
 instruction_bytes_back l e small =
@@ -67,29 +53,9 @@ instruction_bytes_back l e small =
 
 -- ---- tokens
 
-content_back : (x : Content) → ContentFits x → content_of (value_field x % 4294967296) (state_of x) ≡ x
-unfolding content_of
-content_back (Live v) f = rw (fits32 _ (bits_fit v f), signed_bits v f)
-content_back (Spent v) f = rw (fits32 _ (bits_fit v f), signed_bits v f)
-content_back (Deferred n) f = rw (fits32 n f)
-
 pub length_token : (t : Token) → length (Tokens.encode_token t) ≡ token_width
 unfolding Tokens.encode_token
 length_token t = refl
-
-pub token_back : (t : Token) (rest : List ℕ) → TokenFits t → Tokens.decode_token (Tokens.encode_token t ++ rest) ≡ t
-unfolding Tokens.encode_token Tokens.decode_token
-token_back t rest f =
-    rw (
-      number64_bytes t.tag.path.low [],
-      fits64 _ f.path.low,
-      number64_bytes t.tag.path.high [],
-      fits64 _ f.path.high,
-      number16_bytes t.tag.instruction [],
-      fits16 _ f.instruction,
-      number32_bytes (value_field t.content) [],
-      content_back _ f.content,
-    )
 
 state_back : (bits s : ℕ) → s < 3 → state_of (content_of bits s) ≡ s
 unfolding content_of
@@ -123,12 +89,6 @@ unfolding Cells.encode_cell
 length_cell Absent = refl
 length_cell Waiting = refl
 length_cell (Present v) = refl
-
-pub cell_back : (x : Cell) (rest : List ℕ) → CellFits x → Cells.decode_cell (Cells.encode_cell x ++ rest) ≡ x
-unfolding Cells.encode_cell Cells.decode_cell Cells.cell_of
-cell_back Absent rest f = refl
-cell_back Waiting rest f = refl
-cell_back (Present v) rest f = rw (number32_bytes (bits_of v) [], fits32 _ (bits_fit v f), signed_bits v f)
 
 cell_bytes_lem : (bits s : ℕ) → s < 3 → (s < 2 → bits ≡ 0) → bits < 2 ^ 32 → Cells.encode_cell (cell_of bits s) ≡ Cells.bytes_of_cell bits s
 unfolding Cells.encode_cell cell_of

@@ -7,6 +7,7 @@ pub mod KeyPairs
 pub mod Calls
 pub mod Cells
 pub mod Codecs
+pub mod ReadBack
 pub mod Logs
 pub mod Arrays
 pub mod ExpressionRecords

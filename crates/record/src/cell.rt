@@ -1,8 +1,9 @@
 // Cell records of 8 bytes: an I-structure cell read from its bytes, and written as bytes.
-ghost use Rattle.std.specs.Prelude.{◌≡◌, ◌/◌, ◌<◌, ◌≤◌, length};
-ghost use Rattle.buffer.specs.Rows.{put_row};
+ghost use Rattle.std.specs.Prelude.{◌≡◌, ◌≤◌, length};
 ghost use Rattle.record.specs.Cells as Cells;
 ghost use Rattle.record.specs.Widths.{cell_width};
+
+use crate::codec::{Decode, Encode};
 
 // The bytes of a cell record.
 pub const WIDTH: usize = 8;
@@ -17,7 +18,8 @@ pub enum Cell {
     Present(i32),
 }
 
-// The cell of a record's value and state.
+// The cell of a record's value and state. Every state gives one, as in the definition `cell_of`; `state_allowed` refuses those past 2.
+#[tactic(auto, unfolding(crate::specs::Cells::cell_of))]
 fn cell_of(bits: u32, state: u8) -> Cell
     ensures { result ≡ Cells.cell_of bits state }
 {
@@ -28,15 +30,20 @@ fn cell_of(bits: u32, state: u8) -> Cell
     }
 }
 
-// The cell of the record that s starts with.
-pub fn decode(s: &[u8]) -> Cell
-    requires { 8 ≤ length s.now }
-    ensures { result ≡ Cells.decode_cell s.now }
-{
-    cell_of(number::u32_at(s, 0), s[4])
+impl Decode for Cell {
+    const WIDTH: usize = WIDTH;
+
+    ghost WIDTH = { cell_width };
+
+    ghost decoded = { Cells.decode_cell };
+
+    #[tactic(auto, unfolding(crate::specs::Cells::decode_cell))]
+    fn decode(s: &[u8]) -> Self {
+        cell_of(number::u32_at(s, 0), s[4])
+    }
 }
 
-// The bytes of a record's fields.
+// The bytes of a record's fields, the state as its byte.
 fn bytes_of(value: u32, state: u8) -> [u8; WIDTH]
     ensures { result ≡ Cells.bytes_of_cell value state }
 {
@@ -44,17 +51,26 @@ fn bytes_of(value: u32, state: u8) -> [u8; WIDTH]
     [a, b, c, d, state, 0, 0, 0]
 }
 
-pub fn encode(cell: Cell) -> [u8; WIDTH]
-    ensures { (result ≡ Cells.encode_cell cell) × Cells.CellFits cell }
-{
-    match cell {
-        Cell::Absent => bytes_of(0, 0),
-        Cell::Waiting => bytes_of(0, 1),
-        Cell::Present(v) => bytes_of(number::bits(v), 2),
+impl Encode<WIDTH> for Cell {
+    ghost use Rattle.record.specs.ReadBack.{cell_back};
+
+    ghost encoded = { Cells.encode_cell };
+
+    ghost Fits = { Cells.CellFits };
+
+    fn encode(self) -> [u8; WIDTH] {
+        match self {
+            Cell::Absent => bytes_of(0, 0),
+            Cell::Waiting => bytes_of(0, 1),
+            Cell::Present(v) => bytes_of(number::bits(v), 2),
+        }
     }
+
+    ghost read_back = { cell_back };
 }
 
 // Whether the record that s starts with has a state of the three, and zeros behind it.
+#[tactic(auto, unfolding(crate::specs::Cells::cell_state_allowed))]
 pub fn state_allowed(s: &[u8]) -> bool
     requires { 8 ≤ length s.now }
     ensures { result ≡ Cells.cell_state_allowed s.now }
@@ -63,26 +79,10 @@ pub fn state_allowed(s: &[u8]) -> bool
 }
 
 // Whether its value is 0 until it is present.
+#[tactic(auto, unfolding(crate::specs::Cells::zero_until_present))]
 pub fn zero_until_present(s: &[u8]) -> bool
     requires { 8 ≤ length s.now }
     ensures { result ≡ Cells.zero_until_present s.now }
 {
     s[4] == 2 || number::u32_at(s, 0) == 0
-}
-
-// The cell of record i.
-pub fn cell_at(cells: &[u8], i: usize) -> Cell
-    requires { i < length cells.now / cell_width }
-    ensures { result ≡ Cells.cell_of_record cells.now i }
-{
-    decode(buffer::row_at(cells, WIDTH, i))
-}
-
-// Writes a cell as record i; every other byte stays.
-pub fn put_cell(cells: &mut [u8], i: usize, cell: Cell)
-    requires { i < length cells.old / cell_width }
-    ensures { (cells.new ≡ put_row cell_width cells.old i (Cells.encode_cell cell)) × Cells.CellFits cell }
-{
-    let bytes = encode(cell);
-    buffer::put_row(cells, WIDTH, i, &bytes);
 }

@@ -1,9 +1,10 @@
 // Graph records of 16 bytes: an instruction read from its bytes, and written as bytes.
-ghost use Rattle.std.specs.Prelude.{◌≡◌, ◌/◌, ◌<◌, ◌≤◌, length};
-ghost use Rattle.buffer.specs.Rows.{put_row};
+ghost use Rattle.std.specs.Prelude.{◌≡◌};
 ghost use Rattle.record.specs.GraphRecords as Graph;
-ghost use Rattle.record.specs.GraphRecords.{instruction_bytes, instruction_in, InstructionFits};
+ghost use Rattle.record.specs.GraphRecords.{instruction_bytes, InstructionFits};
 ghost use Rattle.record.specs.Widths.{graph_width};
+
+use crate::codec::{Decode, Encode};
 
 // The bytes of a graph record.
 pub const WIDTH: usize = 16;
@@ -16,7 +17,8 @@ pub struct Destination {
 }
 
 // A graph record as it stands: `code` names the operation, `fanout` is the number of destinations in
-// use, and `zeros` are bytes 12 to 15.
+// use, and `zeros` are bytes 12 to 15. Each holds whatever stands there: a graph is lent through the C interface, and its check,
+// which refuses unknown codes and ports, reads it in this form.
 #[derive(Clone, Copy)]
 pub struct Instruction {
     pub code: u8,
@@ -27,30 +29,35 @@ pub struct Instruction {
     pub zeros: u32,
 }
 
-// The instruction of the record that s starts with.
-pub fn decode(s: &[u8]) -> Instruction
-    requires { 16 ≤ length s.now }
-    ensures { result ≡ Graph.decode_instruction s.now }
-{
-    let first = Destination {
-        instruction: number::u16_at(s, 4),
-        port: s[2],
-    };
-    let second = Destination {
-        instruction: number::u16_at(s, 6),
-        port: s[3],
-    };
-    Instruction {
-        code: s[0],
-        fanout: s[1],
-        first,
-        second,
-        constant: number::signed(number::u32_at(s, 8)),
-        zeros: number::u32_at(s, 12),
+impl Decode for Instruction {
+    const WIDTH: usize = WIDTH;
+
+    ghost WIDTH = { graph_width };
+
+    ghost decoded = { Graph.decode_instruction };
+
+    #[tactic(auto, unfolding(crate::specs::GraphRecords::decode_instruction))]
+    fn decode(s: &[u8]) -> Self {
+        let first = Destination {
+            instruction: number::u16_at(s, 4),
+            port: s[2],
+        };
+        let second = Destination {
+            instruction: number::u16_at(s, 6),
+            port: s[3],
+        };
+        Instruction {
+            code: s[0],
+            fanout: s[1],
+            first,
+            second,
+            constant: number::signed(number::u32_at(s, 8)),
+            zeros: number::u32_at(s, 12),
+        }
     }
 }
 
-// The bytes of a record's fields.
+// The bytes of a record's fields, which are numbers as they stand there.
 fn bytes_of(
     code: u8,
     fanout: u8,
@@ -85,34 +92,26 @@ fn bytes_of(
     ]
 }
 
-pub fn encode(r: Instruction) -> [u8; WIDTH]
-    ensures { (result ≡ Graph.encode_instruction r) × InstructionFits r }
-{
-    let first = r.first;
-    let second = r.second;
-    bytes_of(
-        r.code,
-        r.fanout,
-        first,
-        second,
-        number::bits(r.constant),
-        r.zeros,
-    )
-}
+impl Encode<WIDTH> for Instruction {
+    ghost use Rattle.record.specs.ReadBack.{instruction_back};
 
-// Instruction i of a graph.
-pub fn instruction_at(graph: &[u8], i: usize) -> Instruction
-    requires { i < length graph.now / graph_width }
-    ensures { result ≡ instruction_in graph.now i }
-{
-    decode(buffer::row_at(graph, WIDTH, i))
-}
+    ghost encoded = { Graph.encode_instruction };
 
-// Writes r as instruction i of a graph; every other byte stays.
-pub fn put_instruction(graph: &mut [u8], i: usize, r: Instruction)
-    requires { i < length graph.old / graph_width }
-    ensures { (graph.new ≡ put_row graph_width graph.old i (Graph.encode_instruction r)) × InstructionFits r }
-{
-    let bytes = encode(r);
-    buffer::put_row(graph, WIDTH, i, &bytes);
+    ghost Fits = { InstructionFits };
+
+    #[tactic(auto, unfolding(crate::specs::GraphRecords::encode_instruction))]
+    fn encode(self) -> [u8; WIDTH] {
+        let first = self.first;
+        let second = self.second;
+        bytes_of(
+            self.code,
+            self.fanout,
+            first,
+            second,
+            number::bits(self.constant),
+            self.zeros,
+        )
+    }
+
+    ghost read_back = { instruction_back };
 }

@@ -3,6 +3,7 @@
 
 pub mod array;
 pub mod cell;
+pub mod codec;
 pub mod instruction;
 pub mod key;
 pub mod log;

@@ -5,6 +5,7 @@ ghost use Rattle.record.specs.TokensAndTags.{tag_in, root_of, to_of};
 ghost use Rattle.record.specs.Widths.{log_width};
 ghost use Rattle.record.specs.Calls.{enter_of, leave_of, next_of};
 
+use crate::codec::Decode;
 use std::cmp::Ordering;
 
 // 02, R-8: a path is a number of 128 bits, 16 to a level, the newest four levels in its lower word.
@@ -33,19 +34,24 @@ pub struct Caller {
 // of levels in that word less 1. The newest of the levels in a lower word stand below it too.
 const DEEPEST: u64 = 281474976710656;
 
-// The tag of the record, of a token or of a log, that s starts with.
-pub fn decode(s: &[u8]) -> Tag
-    requires { log_width ≤ length s.now }
-    ensures { result ≡ tag_in s.now }
-{
-    let path = Path {
-        low: number::u64_at(s, 0),
-        high: number::u64_at(s, 8),
-    };
-    Tag {
-        path,
-        iteration: s[16],
-        instruction: number::u16_at(s, 18),
+// The tag of a record of a token or of a log: they start alike.
+impl Decode for Tag {
+    const WIDTH: usize = 20;
+
+    ghost WIDTH = { log_width };
+
+    ghost decoded = { tag_in };
+
+    fn decode(s: &[u8]) -> Self {
+        let path = Path {
+            low: number::u64_at(s, 0),
+            high: number::u64_at(s, 8),
+        };
+        Tag {
+            path,
+            iteration: s[16],
+            instruction: number::u16_at(s, 18),
+        }
     }
 }
 
@@ -67,6 +73,7 @@ impl Path {
     }
 
     // One word for a path, of which the matching store makes a bucket.
+    #[tactic(auto, unfolding(crate::specs::Paths::folded_path))]
     pub fn folded(self) -> u64
         ensures { result ≡ folded_path self }
     {

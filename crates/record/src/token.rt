@@ -1,11 +1,10 @@
 // Token records of 28 bytes: a token read from its bytes, and written as bytes.
-ghost use Rattle.std.specs.Prelude.{◌≡◌, ◌/◌, ◌<◌, ◌≤◌, length};
-ghost use Rattle.buffer.specs.Rows.{put_row};
+ghost use Rattle.std.specs.Prelude.{◌≡◌, ◌≤◌, length};
 ghost use Rattle.record.specs.TokensAndTags as Tokens;
-ghost use Rattle.record.specs.TokensAndTags.{content_of, state_of, value_field, token_bytes, token_at, stands_at, ContentFits, TokenFits};
+ghost use Rattle.record.specs.TokensAndTags.{content_of, state_of, value_field, token_bytes, stands_at, ContentFits, TokenFits};
 ghost use Rattle.record.specs.Widths.{token_width};
 
-use crate::tag;
+use crate::codec::{Decode, Encode};
 use crate::tag::{Path, Tag};
 
 // The bytes of a token record, and where its port, its instruction and its state stand.
@@ -28,6 +27,8 @@ pub enum Content {
     Deferred(u32),
 }
 
+// The port is whatever stands there, and so it is a number wherever tokens are looked for: inputs and saved ledgers are lent through the C
+// interface, and their checks, which refuse a port that the instruction lacks, read them in this form.
 #[derive(Clone, Copy)]
 pub struct Token {
     pub tag: Tag,
@@ -35,7 +36,8 @@ pub struct Token {
     pub content: Content,
 }
 
-// The content of a record's value and state.
+// The content of a record's value and state. Every state gives one, as in the definition `content_of`; `state_allowed` refuses those past 2.
+#[tactic(auto, unfolding(crate::specs::TokensAndTags::content_of))]
 fn content_of(bits: u32, state: u8) -> Content
     ensures { result ≡ content_of bits state }
 {
@@ -46,16 +48,21 @@ fn content_of(bits: u32, state: u8) -> Content
     }
 }
 
-// The token of the record that s starts with.
-pub fn decode(s: &[u8]) -> Token
-    requires { token_width ≤ length s.now }
-    ensures { result ≡ Tokens.decode_token s.now }
-{
-    let tag = tag::decode(s);
-    Token {
-        tag,
-        port: s[PORT],
-        content: content_of(number::u32_at(s, 20), s[STATE]),
+impl Decode for Token {
+    const WIDTH: usize = WIDTH;
+
+    ghost WIDTH = { token_width };
+
+    ghost decoded = { Tokens.decode_token };
+
+    #[tactic(auto, unfolding(crate::specs::TokensAndTags::decode_token))]
+    fn decode(s: &[u8]) -> Self {
+        let tag = Tag::decode(s);
+        Token {
+            tag,
+            port: s[PORT],
+            content: content_of(number::u32_at(s, 20), s[STATE]),
+        }
     }
 }
 
@@ -79,7 +86,7 @@ fn value_of(content: Content) -> u32
     }
 }
 
-// The bytes of a record's fields.
+// The bytes of a record's fields, which are numbers as they stand there.
 fn bytes_of(
     path: Path,
     iteration: u8,
@@ -126,45 +133,38 @@ fn bytes_of(
     ]
 }
 
-pub fn encode(t: Token) -> [u8; WIDTH]
-    ensures { (result ≡ Tokens.encode_token t) × TokenFits t }
-{
-    let tag = t.tag;
-    let path = tag.path;
-    let content = t.content;
-    bytes_of(
-        path,
-        tag.iteration,
-        t.port,
-        tag.instruction,
-        value_of(content),
-        state_of(content),
-    )
+impl Encode<WIDTH> for Token {
+    ghost use Rattle.record.specs.ReadBack.{token_back};
+
+    ghost encoded = { Tokens.encode_token };
+
+    ghost Fits = { TokenFits };
+
+    #[tactic(auto, unfolding(crate::specs::TokensAndTags::encode_token))]
+    fn encode(self) -> [u8; WIDTH] {
+        let tag = self.tag;
+        let path = tag.path;
+        let content = self.content;
+        bytes_of(
+            path,
+            tag.iteration,
+            self.port,
+            tag.instruction,
+            value_of(content),
+            state_of(content),
+        )
+    }
+
+    ghost read_back = { token_back };
 }
 
 // Whether the record that s starts with has a state of the three, and zeros behind it.
+#[tactic(auto, unfolding(crate::specs::TokensAndTags::token_state_allowed))]
 pub fn state_allowed(s: &[u8]) -> bool
     requires { token_width ≤ length s.now }
     ensures { result ≡ Tokens.token_state_allowed s.now }
 {
     number::u32_at(s, STATE) <= 2
-}
-
-// The token of record i of a ledger.
-pub fn token_at(ledger: &[u8], i: usize) -> Token
-    requires { i < length ledger.now / token_width }
-    ensures { result ≡ token_at ledger.now i }
-{
-    decode(buffer::row_at(ledger, WIDTH, i))
-}
-
-// Writes t as record i of a ledger; every other byte stays.
-pub fn put_token(ledger: &mut [u8], i: usize, t: Token)
-    requires { i < length ledger.old / token_width }
-    ensures { (ledger.new ≡ put_row token_width ledger.old i (Tokens.encode_token t)) × TokenFits t }
-{
-    let bytes = encode(t);
-    buffer::put_row(ledger, WIDTH, i, &bytes);
 }
 
 // Whether t stands at a port of a tag.

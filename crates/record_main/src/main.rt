@@ -2,10 +2,11 @@
 #![tactic(auto)]
 
 use record::cell::Cell;
+use record::codec::{Decode, Encode};
 use record::instruction::{Destination, Instruction};
+use record::operation;
 use record::tag::{Path, Tag};
 use record::token::{Content, Token};
-use record::{cell, instruction, operation, token};
 use std::io;
 
 fn say_bytes(rt: &impl Print, bytes: &[u8]) -> io::Result<()> {
@@ -33,9 +34,9 @@ fn say_content(rt: &impl Print, content: Content) -> io::Result<()> {
 
 // A token's bytes, and the token read back from them.
 fn show_token(rt: &impl Print, t: Token) -> io::Result<()> {
-    let bytes = token::encode(t);
+    let bytes = t.encode();
     say_bytes(rt, &bytes)?;
-    let back = token::decode(&bytes);
+    let back = Token::decode(&bytes);
     let tag = back.tag;
     let content = back.content;
     say_tag(rt, tag)?;
@@ -44,6 +45,7 @@ fn show_token(rt: &impl Print, t: Token) -> io::Result<()> {
     println!(rt)
 }
 
+// The port is a number: 255, which no instruction has, is tried too.
 fn show_tokens(rt: &impl Print, tag: Tag, port: u8) -> io::Result<()> {
     show_token(
         rt,
@@ -72,9 +74,9 @@ fn show_tokens(rt: &impl Print, tag: Tag, port: u8) -> io::Result<()> {
 }
 
 fn show_cell(rt: &impl Print, x: Cell) -> io::Result<()> {
-    let bytes = cell::encode(x);
+    let bytes = x.encode();
     say_bytes(rt, &bytes)?;
-    let back = cell::decode(&bytes);
+    let back = Cell::decode(&bytes);
     match back {
         Cell::Absent => println!(rt; " absent"),
         Cell::Waiting => println!(rt; " waiting"),
@@ -87,9 +89,9 @@ fn say_destination(rt: &impl Print, d: Destination) -> io::Result<()> {
 }
 
 fn show_instruction(rt: &impl Print, r: Instruction) -> io::Result<()> {
-    let bytes = instruction::encode(r);
+    let bytes = r.encode();
     say_bytes(rt, &bytes)?;
-    let back = instruction::decode(&bytes);
+    let back = Instruction::decode(&bytes);
     let first = back.first;
     let second = back.second;
     print!(rt; " {} {}", back.code, back.fanout)?;

@@ -12,23 +12,19 @@ ghost use Rattle.rules.specs.Runs.{ReplayedOn};
 ghost use Rattle.start.specs.Begun.{machine_lent};
 ghost use Rattle.start.specs.Ended.{EndedAt};
 
+use checks::stores::Stores;
 use engine::choice::Order;
 use engine::turns;
-use engine::turns::Going;
+use fire::Plain;
 use record::log;
 use rules::answer;
 use rules::answer::Answer;
-use store_flags::Flags;
 
 // How many records a log of `bytes` bytes has, the last one whole or not.
 fn records_in(bytes: usize) -> usize
     ensures { result ≡ (bytes + (log_width - 1)) / log_width }
 {
-    if bytes % log::WIDTH == 0 {
-        bytes / log::WIDTH
-    } else {
-        bytes / log::WIDTH + 1
-    }
+    bytes.div_ceil(log::WIDTH)
 }
 
 // A replay that passed every check begins as a run does, and each record is a turn: a last one that is not whole is a record too.
@@ -46,34 +42,18 @@ fn accepted(
         (names_in log.now) 0 (first_state inputs.now (length cells.old / cell_width))) result ledger.old
         cells.old ledger.new cells.new }
 {
-    let mut tables = [0u16; store_enabled::TABLES_LENGTH];
-    let mut links = [0u16; store_chains::LENGTH];
-    let mut flags = Flags::new();
-    let used = start::begin(
+    let mut none = [0u8; 0];
+    turns::from_inputs(
         graph,
         arrays,
         inputs,
-        &mut tables,
-        &mut links,
-        &mut flags,
-        ledger,
-        cells,
-    );
-    let mut none = [0u8; 0];
-    turns::proceed(
-        graph,
-        &tables,
         Order::Log,
         log,
-        &mut links,
-        &mut flags,
+        records_in(log.len()),
+        &mut Plain,
         ledger,
         cells,
         &mut none,
-        Going {
-            used,
-            budget: records_in(log.len()),
-        },
     )
 }
 
@@ -89,7 +69,13 @@ pub fn replay(
     ensures { ReplayedOn graph.now arrays.now inputs.now log.now ledger.old cells.old result
         ledger.new cells.new }
 {
-    let checked = checks::check(graph, arrays, inputs, &log[0..0], ledger.len(), cells.len());
+    let stores = Stores {
+        inputs: inputs.len(),
+        picks: 0,
+        ledger: ledger.len(),
+        cells: cells.len(),
+    };
+    let checked = checks::check_with(graph, arrays, &stores, inputs, ledger.len(), cells.len());
     match checked {
         Err(fault) => answer::refused(fault),
         Ok(()) => accepted(graph, arrays, inputs, log, ledger, cells),

@@ -32,7 +32,8 @@ use Rattle.record.proofs.Paths.{root_fits}
 use Rattle.record.specs.declared.term.Term.{Term}
 use Rattle.record.specs.ExpressionRecords.{decode_term, expression_of}
 use Rattle.record.specs.Widths.{graph_width, token_width}
-use Rattle.record.proofs.Records.{length_instruction, instruction_back, length_token, tokens_joined}
+use Rattle.record.specs.ReadBack.{instruction_back}
+use Rattle.record.proofs.Records.{length_instruction, length_token, tokens_joined}
 use Rattle.rules.specs.declared.answer.Refusal.TheVariants as Refusals
 use Rattle.rules.specs.Check.{demand, any, in_turn, operands_at, fan_out_allowed, is_zero, unused_are_zero, good_arc, good_site, check_record, check_graph, names_good, check_arrays, good_input, second_input, check_inputs, Checked}
 use Rattle.rules.specs.Expression.{term_at, is_variable, is_operation, instruction_for, goes_to, code_for, sending, out, made, graph_for, graph_bytes, inputs_for, input_bytes, ValuesFor}

@@ -20,7 +20,8 @@ use Rattle.record.specs.Cells as Cells
 use Rattle.record.specs.Cells.{CellFits}
 use Rattle.record.specs.Widths.{token_width, cell_width}
 use Rattle.buffer.proofs.Tables.{length_joined}
-use Rattle.record.proofs.Records.{length_token, length_cell, token_back, tokens_joined, cells_joined}
+use Rattle.record.specs.ReadBack.{token_back}
+use Rattle.record.proofs.Records.{length_token, length_cell, tokens_joined, cells_joined}
 use Rattle.record.proofs.Allowed.{token_allowed_lem, cell_allowed_lem, cell_zero}
 use Rattle.machine.specs.Machine.{Content, live, spent, deferred, Token, Cell, absent, waiting, present, State}
 use Rattle.rules.specs.Check.{all, operands_at}

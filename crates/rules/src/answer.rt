@@ -6,30 +6,30 @@ ghost use Rattle.rules.specs.Answer.{number_of, word_of};
 // The words of 01's table of refusals in this order, 1 to 17 without 15 and 16, which R-5 and R-6 took out; then 02's.
 #[derive(Clone, Copy)]
 pub enum Refusal {
-    GraphLength,
-    UnknownOperation,
-    FanOut,
-    BadArc,
-    BadSite,
-    BadInput,
-    BadStore,
-    LedgerFull,
-    SecondToken,
-    NoSuchCell,
-    SecondWrite,
-    OutOfRange,
-    Iteration,
-    TooDeep,
-    NoReturn,
-    ProfileFull,
-    NotLoopFree,
-    NotEnabled,
-    BadBound,
-    BadArray,
-    Undecided,
-    DamagedState,
-    BadExpression,
-    GraphTooLong,
+    GraphLength = 1,
+    UnknownOperation = 2,
+    FanOut = 3,
+    BadArc = 4,
+    BadSite = 5,
+    BadInput = 6,
+    BadStore = 7,
+    LedgerFull = 8,
+    SecondToken = 9,
+    NoSuchCell = 10,
+    SecondWrite = 11,
+    OutOfRange = 12,
+    Iteration = 13,
+    TooDeep = 14,
+    NoReturn = 17,
+    ProfileFull = 18,
+    NotLoopFree = 19,
+    NotEnabled = 20,
+    BadBound = 21,
+    BadArray = 22,
+    Undecided = 23,
+    DamagedState = 24,
+    BadExpression = 25,
+    GraphTooLong = 26,
 }
 
 // A refusal comes with its place.
@@ -50,7 +50,7 @@ impl Refusal {
     }
 }
 
-// A refusal and its place stand here as they go to C.
+// `Refused` has no `Fault` in it: theorems and the number for C are said of its two fields (docs/DECISIONS.md, 233).
 #[derive(Clone, Copy)]
 pub enum Outcome {
     Completed,
@@ -102,32 +102,7 @@ pub struct Needs {
 pub fn number(r: Refusal) -> u8
     ensures { result ≡ number_of r }
 {
-    match r {
-        Refusal::GraphLength => 1,
-        Refusal::UnknownOperation => 2,
-        Refusal::FanOut => 3,
-        Refusal::BadArc => 4,
-        Refusal::BadSite => 5,
-        Refusal::BadInput => 6,
-        Refusal::BadStore => 7,
-        Refusal::LedgerFull => 8,
-        Refusal::SecondToken => 9,
-        Refusal::NoSuchCell => 10,
-        Refusal::SecondWrite => 11,
-        Refusal::OutOfRange => 12,
-        Refusal::Iteration => 13,
-        Refusal::TooDeep => 14,
-        Refusal::NoReturn => 17,
-        Refusal::ProfileFull => 18,
-        Refusal::NotLoopFree => 19,
-        Refusal::NotEnabled => 20,
-        Refusal::BadBound => 21,
-        Refusal::BadArray => 22,
-        Refusal::Undecided => 23,
-        Refusal::DamagedState => 24,
-        Refusal::BadExpression => 25,
-        Refusal::GraphTooLong => 26,
-    }
+    r as u8
 }
 
 // An outcome in one number.

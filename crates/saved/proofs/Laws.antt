@@ -12,7 +12,7 @@ use lib.ListN.{length, get_or, take, drop, replicate, get_or-replicate}
 use lib.Seq.{length-take-le}
 use lib.IntN.{pos}
 use Rattle.record.specs.declared.tag.Tag.{Tag}
-use Rattle.std.specs.Prelude.{Some, None}
+use mir.Val.{bool_byte as from_bool}
 use Rattle.record.specs.declared.token.Content.{Content}
 use Rattle.record.specs.declared.token.Content.TheVariants.{Live, Spent, Deferred}
 use Rattle.record.specs.declared.instruction.Instruction.{Instruction}
@@ -39,7 +39,7 @@ use Rattle.check_fields.specs.Sites.{at_site}
 use Rattle.check_fields.proofs.Sites.{at_site_lem}
 use Rattle.check_fields.proofs.Turns.{any_append}
 use Rattle.rules.proofs.PassedGraph.{two_operands}
-use Rattle.std.specs.Prelude.{Option, Some, None, is_none}
+use Rattle.std.specs.Prelude.{Option, Some, None, is_some, is_none}
 use Rattle.store_chains.specs.Search.{first_from, Free}
 use Rattle.store_chains.specs.Deferred.{LowCell}
 use Rattle.store_enabled.specs.Enabled.{arity_of}
@@ -99,40 +99,33 @@ told y f e = (e, λ h. f (sym e ∙ h))
 
 -- ---- a table of sites
 
-pub no_sites : EnteredSites [] (replicate 256 0)
-no_sites site h = rw (get_or-replicate {A = ℕ} 256 site 0 0 h)
+pub no_sites : EnteredSites [] (replicate 256 None)
+no_sites site h = rw (get_or-replicate {A = Option ℕ} 256 site None None h)
 
-pub one_site : (rs : List Instruction) (sites : List ℕ) (r : Instruction) (v : ℕ) → 256 ≤ length sites → EnteredSites rs sites → EnteredSites (rs ++ r ∷ []) (at_site sites r (suc v))
+pub one_site : (rs : List Instruction) (sites : List (Option ℕ)) (r : Instruction) (v : ℕ) → 256 ≤ length sites → EnteredSites rs sites → EnteredSites (rs ++ r ∷ []) (at_site sites r (Some v))
 one_site rs sites r v n h site l =
     any_append (enters_site (pos site)) rs (r ∷ [])
-    ∙ rw (h site l, at_site_lem sites r (suc v) site n l) (go (enters_site (pos site) r) (get_or sites site 0))
+    ∙ rw (h site l, at_site_lem sites r (Some v) site None n l) (go (enters_site (pos site) r) (get_or sites site None))
   where
-    or : (a b : Bool) → (a || (b || false)) ≡ cond b true a
-    or true true = refl
-    or true false = refl
-    or false true = refl
-    or false false = refl
-
-    entry : (b : Bool) (e : ℕ) → cond b true (not (eqb e 0)) ≡ not (eqb (cond b (suc v) e) 0)
-    entry true e = sym (rw (ne_eqb (suc v) 0 (λ z. omega arith)))
-    entry false e = refl
-
-    go : (b : Bool) (e : ℕ) → (not (eqb e 0) || (b || false)) ≡ not (eqb (cond b (suc v) e) 0)
-    go b e = or (not (eqb e 0)) b ∙ entry b e
+    go : (b : Bool) (e : Option ℕ) → (is_some e || (b || false)) ≡ is_some (cond b (Some v) e)
+    go true None = refl
+    go true (Some i) = refl
+    go false None = refl
+    go false (Some i) = refl
 
 -- ---- a path, level by level
 
-module _ (g : List Instruction) (sites : List ℕ) (entered : EnteredSites g sites) where
+module _ (g : List Instruction) (sites : List (Option ℕ)) (entered : EnteredSites g sites) where
   pub no_level : (n : ℕ) (τ : Tag) → leave_of τ ≡ None → path_made g n τ ≡ true
   no_level zero τ e = rw e
   no_level (suc n) τ e = rw e
 
-  pub bad_level : (n : ℕ) (τ : Tag) (site : ℕ) (caller : Tag) → leave_of τ ≡ Some (record { site = site; tag = caller }) → site < 256 → get_or sites site 0 ≡ 0 → path_made g n τ ≡ false
+  pub bad_level : (n : ℕ) (τ : Tag) (site : ℕ) (caller : Tag) → leave_of τ ≡ Some (record { site = site; tag = caller }) → site < 256 → is_some (get_or sites site None) ≡ false → path_made g n τ ≡ false
   bad_level zero τ site caller e l z = rw e
   bad_level (suc n) τ site caller e l z = rw (e, entered site l, z)
 
-  pub good_level : (n : ℕ) (τ : Tag) (site : ℕ) (caller : Tag) → leave_of τ ≡ Some (record { site = site; tag = caller }) → site < 256 → ¬ (get_or sites site 0 ≡ 0) → path_made g (suc n) τ ≡ path_made g n caller
-  good_level n τ site caller e l z = rw (e, entered site l, ne_eqb (get_or sites site 0) 0 z)
+  pub good_level : (n : ℕ) (τ : Tag) (site : ℕ) (caller : Tag) → leave_of τ ≡ Some (record { site = site; tag = caller }) → site < 256 → is_some (get_or sites site None) ≡ true → path_made g (suc n) τ ≡ path_made g n caller
+  good_level n τ site caller e l z = rw (e, entered site l, z)
 
 pub last_level : (g : List Instruction) (τ : Tag) → is_root τ.path ≡ path_made g 0 τ
 unfolding leave_of
@@ -193,12 +186,15 @@ pub record Counts (test : ℕ → Bool) (i n : ℕ) : Type 0 where
   pub few : n ≤ i
   pub number : n ≡ count_up_to test i
 
-pub counts_none : (test : ℕ → Bool) → Counts test 0 0
-counts_none test = record { few = omega arith; number = refl }
-
 pub counts_more : (test : ℕ → Bool) (i n r : ℕ) → Counts test i n → r ≡ cond (test i) 1 0 → Counts test (i + 1) (n + r)
 counts_more test i n r c f = rw (add-one i) (go (test i) refl f)
   where
     go : (b : Bool) → test i ≡ b → r ≡ cond b 1 0 → Counts test (suc i) (n + r)
     go true e h = record { few = omega (arith, c.few); number = rw e (omega (arith, c.number)) }
     go false e h = record { few = omega (arith, c.few); number = rw e (omega (arith, c.number)) }
+
+-- a test as a number
+
+pub byte_cond : (b : Bool) → from_bool b ≡ cond b 1 0
+byte_cond true = refl
+byte_cond false = refl

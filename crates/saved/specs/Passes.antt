@@ -1,6 +1,6 @@
 -- Working definition: no public promise cites it.
 -- 02, R-13: what is asked of a saved state, record by record, as a pass over its tokens and one over its cells ask it: all conditions give one answer. Assumes nothing.
-use Rattle.std.specs.Prelude.{ℕ, zero, suc, ◌-◌, ◌*◌, ◌/◌, ◌<◌, ◌≡◌, Bool, true, false, not, ◌&&◌, ◌||◌, cond, List, length, get_or, take, drop, pos, eqb, ltb, Option, Some, None, is_none}
+use Rattle.std.specs.Prelude.{ℕ, zero, suc, ◌-◌, ◌*◌, ◌/◌, ◌<◌, ◌≡◌, Bool, true, false, not, ◌&&◌, ◌||◌, cond, List, length, get_or, take, drop, pos, eqb, ltb, Option, Some, None, is_some, is_none}
 use Rattle.record.specs.declared.token.Token.{Token}
 use Rattle.record.specs.declared.token.Content.{Content}
 use Rattle.record.specs.declared.token.Content.TheVariants.{Live, Spent, Deferred}
@@ -19,9 +19,9 @@ use Rattle.store_chains.specs.Search.{first_from}
 use Rattle.store_chains.specs.Deferred.{any_on}
 use Rattle.store_enabled.specs.Enabled.{arity_of}
 
--- a table by site is 0 where no ENTER has the site
-abbrev pub EnteredSites : List Instruction → (sites : List ℕ) → Type 0
-EnteredSites g sites = (site : ℕ) → site < 256 → any (enters_site (pos site)) g ≡ not (eqb (get_or sites site 0) 0)
+-- a table by site has none where no ENTER has the site
+abbrev pub EnteredSites : List Instruction → (sites : List (Option ℕ)) → Type 0
+EnteredSites g sites = (site : ℕ) → site < 256 → any (enters_site (pos site)) g ≡ is_some (get_or sites site None)
 
 -- ---- each token as it arrives
 

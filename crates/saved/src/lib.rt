@@ -2,7 +2,7 @@
 // one answer, so they may be asked in any order.
 #![tactic(auto)]
 
-ghost use Rattle.std.specs.Prelude.{ℕ, ◌*◌, ◌/◌, ◌%◌, ◌≤◌, ◌<◌, ◌≡◌, true, cond, List, length, take, drop, replicate, eqb, ltb};
+ghost use Rattle.std.specs.Prelude.{ℕ, ◌*◌, ◌/◌, ◌%◌, ◌≤◌, ◌<◌, ◌≡◌, true, List, length, take, drop, replicate, eqb, ltb};
 ghost use Rattle.record.specs.declared.instruction.Instruction.{Instruction};
 ghost use Rattle.record.specs.GraphRecords.{graph_of};
 ghost use Rattle.record.specs.TokensAndTags.{encode_token, decode_token, tokens, token_at, TokenFits, is_spent_record};
@@ -19,30 +19,33 @@ ghost use Rattle.store.specs.Matching.{Matching};
 ghost use Rattle.fire.specs.Running.{Prepared, Running};
 ghost use Rattle.saved.specs.Passes.{EnteredSites, content_allowed, arrives_at, spent_found, spent_of_two, closes_at, first_spent, enters_all, is_waiting_record, CellBytes, cell_right};
 
-use check_fields::{arc, site};
+use check_fields::arc;
+use check_fields::site::Entered;
 use record::cell::Cell;
+use record::codec::Decode;
+use record::instruction::Instruction;
+use record::operation::OperandCounts;
 use record::tag::Tag;
 use record::token::{Content, Token};
-use record::{cell, instruction, operation, token};
-use store_chains::Links;
-use store_enabled::Tables;
-use store_flags::Flags;
+use record::{cell, instruction, token};
+use store_enabled::{Store, Tables};
 
 // The most levels of calls.
 const LEVELS: usize = 8;
 
-// A table by site of the returns of ENTERs: 0 where no ENTER has the site.
-fn find_sites(graph: &[u8], sites: &mut [u32; 256])
-    ensures { EnteredSites (graph_of graph.now) sites.new }
+// The sites that an ENTER has.
+fn find_sites(graph: &[u8]) -> Entered
+    ensures { EnteredSites (graph_of graph.now) result }
 {
-    *sites = [0u32; 256];
+    let mut sites = Entered::none();
     for i in 0..graph.len() / instruction::WIDTH {
-        site::note(sites, instruction::instruction_at(graph, i));
+        sites.note(Instruction::read(graph, i));
     }
+    sites
 }
 
 // Whether a path is made of sites that have an ENTER, with its levels unbroken: LEAVE finds one after the other.
-fn path_made(sites: &[u32; 256], tag: Tag) -> bool
+fn path_made(sites: &Entered, tag: Tag) -> bool
     ensures { (g : List Instruction) → EnteredSites g sites.now → result ≡ path_made g most_levels tag }
 {
     let mut at = tag;
@@ -50,7 +53,7 @@ fn path_made(sites: &[u32; 256], tag: Tag) -> bool
         let Some(caller) = at.leave() else {
             return true;
         };
-        if sites[caller.site as usize] == 0 {
+        if !sites.has(caller.site) {
             return false;
         }
         at = caller.tag;
@@ -72,7 +75,8 @@ fn content_allowed(tables: &Tables, count: usize, t: Token) -> bool
     }
 }
 
-// Whether the port of a token is one of its instruction's. Where operands are waited for, the tables have their number.
+// Whether the port of a token is one of its instruction's. Where operands are waited for, the tables have their number. That
+// they are the graph's is said in the clauses: the graph's bytes are the caller's.
 fn port_allowed(graph: &[u8], tables: &Tables, t: Token) -> bool
     requires { Arities (graph_of graph.now) tables.now }
     ensures { result ≡ ltb t.port (operands_at (graph_of graph.now) t.tag.instruction) }
@@ -80,7 +84,7 @@ fn port_allowed(graph: &[u8], tables: &Tables, t: Token) -> bool
     let tag = t.tag;
     let operands = store_enabled::arity(tables, tag);
     if operands == 0 {
-        let counts = operation::counts();
+        let counts = OperandCounts::new();
         return t.port < arc::operands_at(&counts, graph, tag.instruction);
     }
     (t.port as u16) < operands
@@ -92,27 +96,27 @@ fn token_allowed(graph: &[u8], tables: &Tables, s: &[u8]) -> bool
     ensures value { result ≡ token_allowed (graph_of graph.now) s.now }
     ensures s_value { result ≡ true → (encode_token (decode_token s.now) ≡ take token_width s.now) × TokenFits (decode_token s.now) }
 {
-    port_allowed(graph, tables, token::decode(s)) && token::state_allowed(s)
+    port_allowed(graph, tables, Token::decode(s)) && token::state_allowed(s)
 }
 
 // Whether record i can arrive in the matching store of those before it.
 fn arrives(
     graph: &[u8],
     tables: &Tables,
-    sites: &[u32; 256],
-    links: &Links,
+    sites: &Entered,
+    store: &Store,
     ledger: &[u8],
     count: usize,
     i: usize,
 ) -> bool
-    requires { (i < length ledger.now / token_width) × Known links.now ledger.now i × EnteredSites (graph_of graph.now) sites.now × Arities (graph_of graph.now) tables.now }
+    requires { (i < length ledger.now / token_width) × Known store.now.links ledger.now i × EnteredSites (graph_of graph.now) sites.now × Arities (graph_of graph.now) tables.now }
     ensures value { result ≡ arrives_at (graph_of graph.now) tables.now ledger.now count i }
     ensures i_value { result ≡ true → (encode_token (token_at ledger.now i) ≡ take token_width (drop (i * token_width) ledger.now)) × TokenFits (token_at ledger.now i) }
 {
     if !token_allowed(graph, tables, buffer::row_at(ledger, token::WIDTH, i)) {
         return false;
     }
-    let t = token::token_at(ledger, i);
+    let t = Token::read(ledger, i);
     let tag = t.tag;
     if !path_made(sites, tag) {
         return false;
@@ -120,31 +124,24 @@ fn arrives(
     if !content_allowed(tables, count, t) {
         return false;
     }
-    store::find(links, ledger, i, tag, t.port).is_none()
+    store::find(store, ledger, i, tag, t.port).is_none()
 }
 
 fn is_spent(content: Content) -> bool
     ensures { result ≡ is_spent_record content }
 {
-    match content {
-        Content::Live(_) => false,
-        Content::Spent(_) => true,
-        Content::Deferred(_) => false,
-    }
+    matches!(content, Content::Spent(_))
 }
 
+// The caller lends the ledger's bytes (the C interface), so the number of its tokens goes beside them.
 fn spent_found(ledger: &[u8], used: usize, f: Option<usize>) -> bool
     requires { FoundWithin f used × (used ≤ length ledger.now / token_width) }
     ensures { result ≡ spent_found (token_at ledger.now) f }
 {
-    match f {
-        Some(j) => {
-            let t = token::token_at(ledger, j);
-            let content = t.content;
-            is_spent(content)
-        }
-        None => false,
-    }
+    f.is_some_and(|j| {
+        let t = Token::read(ledger, j);
+        is_spent(t.content)
+    })
 }
 
 // Whether t is a spent operand of a tag that waits for two.
@@ -157,15 +154,15 @@ fn spent_of_two(tables: &Tables, t: Token) -> bool
 }
 
 // Whether record i, which is t, is such an operand and the other one came before it, spent too.
-fn closes(tables: &Tables, links: &Links, ledger: &[u8], i: usize, t: Token) -> bool
-    requires { (t ≡ token_at ledger.now i) × (t.port < 2) × Known links.now ledger.now i }
+fn closes(tables: &Tables, store: &Store, ledger: &[u8], i: usize, t: Token) -> bool
+    requires { (t ≡ token_at ledger.now i) × (t.port < 2) × Known store.now.links ledger.now i }
     ensures { result ≡ closes_at tables.now ledger.now i }
 {
     if !spent_of_two(tables, t) {
         return false;
     }
     let tag = t.tag;
-    spent_found(ledger, i, store::find(links, ledger, i, tag, 1 - t.port))
+    spent_found(ledger, i, store::find(store, ledger, i, tag, 1 - t.port))
 }
 
 // Whether t is a spent token on port 0: it stands for its tag's firing.
@@ -176,48 +173,41 @@ fn first_spent(t: Token) -> bool
     t.port == 0 && is_spent(content)
 }
 
-fn one_if(b: bool) -> usize
-    ensures { (result ≡ cond b 1 0) × (result ≤ 1) }
-{
-    if b { 1 } else { 0 }
-}
-
 // The pass over the tokens: each arrives in the matching store of those before it. Operands are spent together if half of those
 // that are spent, of two, close a pair.
 fn enter(
     graph: &[u8],
     tables: &Tables,
-    sites: &[u32; 256],
-    links: &mut Links,
-    flags: &mut Flags,
+    sites: &Entered,
+    store: &mut Store,
     ledger: &[u8],
     count: usize,
     firings: usize,
     used: usize,
 ) -> bool
-    requires { Matching tables.now links.old flags.old ledger.now 0
+    requires { Matching tables.now store.old.links store.old.flags ledger.now 0
         × (used ≤ length ledger.now / token_width) × (length ledger.now / token_width ≤ 2048) × (count ≤ 1024)
         × EnteredSites (graph_of graph.now) sites.now × Arities (graph_of graph.now) tables.now }
     ensures value { result ≡ enters_all (graph_of graph.now) tables.now ledger.now count firings used }
-    ensures cases { result ≡ true → Matching tables.now links.new flags.new ledger.now used }
+    ensures cases { result ≡ true → Matching tables.now store.new.links store.new.flags ledger.now used }
 {
     let mut fired = 0;
     let mut of_two = 0;
     let mut closed = 0;
     for i in 0..used {
-        if !arrives(graph, tables, sites, links, ledger, count, i) {
+        if !arrives(graph, tables, sites, store, ledger, count, i) {
             return false;
         }
-        let t = token::token_at(ledger, i);
-        fired += one_if(first_spent(t));
-        of_two += one_if(spent_of_two(tables, t));
-        closed += one_if(closes(tables, links, ledger, i, t));
+        let t = Token::read(ledger, i);
+        fired += usize::from(first_spent(t));
+        of_two += usize::from(spent_of_two(tables, t));
+        closed += usize::from(closes(tables, store, ledger, i, t));
         let tag = t.tag;
-        let Some(slot) = store::seek(links, ledger, i, tag, t.port) else {
+        let Some(slot) = store::seek(store, ledger, i, tag, t.port) else {
             // `arrives` found none there.
             return false;
         };
-        store::enter(tables, links, flags, ledger, i, t, slot);
+        store::enter(tables, store, ledger, i, t, slot);
     }
     closed * 2 == of_two && fired == firings
 }
@@ -225,11 +215,7 @@ fn enter(
 fn is_waiting(cell: Cell) -> bool
     ensures { result ≡ is_waiting_record cell }
 {
-    match cell {
-        Cell::Absent => false,
-        Cell::Waiting => true,
-        Cell::Present(_) => false,
-    }
+    matches!(cell, Cell::Waiting)
 }
 
 // Whether state and value of the cell record that s starts with are allowed; then its bytes are those of its cell.
@@ -242,31 +228,27 @@ fn cell_allowed(s: &[u8]) -> bool
 }
 
 // Whether cell c is right: it is waiting exactly where a token is deferred on it.
-fn cell_right(links: &Links, cells: &[u8], c: usize) -> bool
+fn cell_right(store: &Store, cells: &[u8], c: usize) -> bool
     requires { (c < length cells.now / cell_width) × (c < 1024) }
-    ensures by_index { (tables flags ledger : List ℕ) (used : ℕ) → Matching tables links.now flags ledger used → result ≡ cell_right (tokens used ledger) cells.now c }
+    ensures by_index { (tables flags ledger : List ℕ) (used : ℕ) → Matching tables store.now.links flags ledger used → result ≡ cell_right (tokens used ledger) cells.now c }
     ensures cell_bytes { result ≡ true → CellBytes cells.now c }
 {
     if !cell_allowed(buffer::row_at(cells, cell::WIDTH, c)) {
         return false;
     }
-    let x = cell::cell_at(cells, c);
-    if is_waiting(x) {
-        store::any_deferred(links, c)
-    } else {
-        !store::any_deferred(links, c)
-    }
+    let x = Cell::read(cells, c);
+    store::any_deferred(store, c) == is_waiting(x)
 }
 
 // The pass over the cells.
-fn cells_right(links: &Links, cells: &[u8]) -> bool
+fn cells_right(store: &Store, cells: &[u8]) -> bool
     requires { length cells.now / cell_width ≤ 1024 }
-    ensures by_index { (tables flags ledger : List ℕ) (used : ℕ) → Matching tables links.now flags ledger used
+    ensures by_index { (tables flags ledger : List ℕ) (used : ℕ) → Matching tables store.now.links flags ledger used
         → result ≡ all_up_to (cell_right (tokens used ledger) cells.now) (length cells.now / cell_width) }
     ensures cell_bytes { result ≡ true → (c : ℕ) → c < length cells.now / cell_width → CellBytes cells.now c }
 {
     for c in 0..cells.len() / cell::WIDTH {
-        if !cell_right(links, cells, c) {
+        if !cell_right(store, cells, c) {
             return false;
         }
     }
@@ -277,8 +259,7 @@ fn cells_right(links: &Links, cells: &[u8]) -> bool
 pub fn take(
     graph: &[u8],
     tables: &Tables,
-    links: &mut Links,
-    flags: &mut Flags,
+    store: &mut Store,
     ledger: &[u8],
     cells: &[u8],
     firings: usize,
@@ -286,20 +267,17 @@ pub fn take(
 ) -> bool
     requires { Prepared graph.now tables.now
         × (length ledger.now / token_width ≤ 2048) × (length cells.now % cell_width ≡ 0) × (length cells.now / cell_width ≤ 1024)
-        × (links.old ≡ replicate 11264 0) × (flags.old ≡ replicate 2048 0) }
+        × (store.old.links ≡ replicate 11264 0) × (store.old.flags ≡ replicate 2048 0) }
     ensures value { result ≡ state_taken graph.now ledger.now cells.now firings used }
-    ensures running { result ≡ true → Running (graph_of graph.now) tables.now links.new flags.new ledger.now cells.now used }
+    ensures running { result ≡ true → Running (graph_of graph.now) tables.now store.new.links store.new.flags ledger.now cells.now used }
 {
     if ledger.len() / token::WIDTH < used {
         return false;
     }
-    let mut sites = [0u32; 256];
-    find_sites(graph, &mut sites);
+    let sites = find_sites(graph);
     let count = cells.len() / cell::WIDTH;
-    if !enter(
-        graph, tables, &sites, links, flags, ledger, count, firings, used,
-    ) {
+    if !enter(graph, tables, &sites, store, ledger, count, firings, used) {
         return false;
     }
-    cells_right(links, cells)
+    cells_right(store, cells)
 }

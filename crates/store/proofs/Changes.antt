@@ -25,7 +25,7 @@ use Rattle.store_chains.proofs.Walks.{link_of, link_found}
 use Rattle.store_chains.proofs.Deferred.{Walk, walk_start, walk_own, walk_step, walk_end, waiting_woken}
 use Rattle.store_enabled.specs.Store.{Stored, tokens_spent}
 use Rattle.store_enabled.proofs.Bytes.{split, rest_put}
-use Rattle.store_enabled.proofs.Store.{stored_links, all_append, all_set, all_at}
+use Rattle.store_enabled.proofs.Stored.{stored_links, all_append, all_set, all_at}
 use Rattle.store.specs.Matching.{content_spent, spent_token, StoreInside, Matching}
 
 abbrev Low : Token → Type 0

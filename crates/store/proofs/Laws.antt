@@ -25,7 +25,7 @@ use Rattle.store_enabled.specs.Store.{Known, Stored}
 use Rattle.store_enabled.proofs.Right.{right_none, right_list, right_flag, right_places, enabled_below, enabled_leads}
 use Rattle.store_enabled.proofs.Bytes.{split}
 use Rattle.store_enabled.proofs.Single.{single_none}
-use Rattle.store_enabled.proofs.Store.{known_few}
+use Rattle.store_enabled.proofs.Stored.{known_few}
 use Rattle.store.specs.Matching.{StoreInside, Matching}
 
 -- arrays of zeros are right for a ledger with no used record

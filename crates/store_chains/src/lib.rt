@@ -12,6 +12,7 @@ ghost use Rattle.store_chains.specs.Slots.{SoughtAt};
 ghost use Rattle.store_chains.specs.Partners.{partner_at, Partnered, paired, Beside};
 ghost use Rattle.store_chains.specs.Deferred.{LowCell, Waiting};
 
+use record::codec::Decode;
 use record::tag::Tag;
 use record::token;
 use record::token::{Content, Token};
@@ -19,7 +20,8 @@ use record::token::{Content, Token};
 // All chains of a ledger.
 pub const LENGTH: usize = 11264;
 
-// No Option in the array: a u16 has place + 1 and 0 for none, in fixed memory that begins as zeros. `place_at` reads it.
+// Each number is a place + 1, and 0 is none. No Option in the array: one of a place would take more than two bytes, of 11,264 entries that
+// each run clears. `place_at` reads it.
 pub type Links = [u16; LENGTH];
 
 // Heads by tag from 0 on, and for each place the link to the one before it.
@@ -33,7 +35,8 @@ pub const LATER: usize = 7168;
 // For each place that of its partner, as place + 1 and 0 for none.
 const PARTNER: usize = 9216;
 
-// Where a token may arrive: the chain of its tag, and its partner, which stands on the other port of the tag.
+// Where a token may arrive: the chain of its tag, and its partner, which stands on the other port of the tag. A slot is right for one ledger,
+// tag and port, so the clauses say that it is (`Open`), and no invariant does.
 #[derive(Clone, Copy)]
 pub struct Slot {
     pub bucket: usize,
@@ -41,12 +44,14 @@ pub struct Slot {
 }
 
 // A product spreads what stands in each half over the bits from 2^20 on.
+#[tactic(auto, unfolding(crate::specs::Chains::mix))]
 fn mixed(calls: u64) -> u64
     ensures { (result ≡ mix calls) × (result < 9223372036854775808) }
 {
     calls % 4294967296 * 668265261 + calls / 4294967296 * 374761393
 }
 
+#[tactic(auto, unfolding(crate::specs::Chains::bucket_of))]
 fn bucket(tag: Tag) -> usize
     ensures { (result ≡ bucket_of tag) × (result < 4096) }
 {
@@ -65,13 +70,16 @@ pub fn place_at(links: &Links, index: usize) -> Option<usize>
 }
 
 // The used record that stands at a port of a tag. No two do, so the walk along the tag's chain ends with the first that it meets.
+// The caller lends the ledger's bytes, so the number of its tokens goes beside them.
+// A port is a number, as in the records of the lent ledger (`Token`).
+// No `for`: a link says which place comes next.
 pub fn find(links: &Links, ledger: &[u8], used: usize, tag: Tag, port: u8) -> Option<usize>
     requires { (used ≤ length ledger.now / token_width) × Indexed links.now (tokens used ledger.now) × Single (tokens used ledger.now) }
     ensures { (result ≡ first_from (stands_at tag port) 0 (tokens used ledger.now)) × FoundWithin result used }
 {
     let mut at = place_at(links, bucket(tag));
     while let Some(i) = at {
-        let t = token::token_at(ledger, i);
+        let t = Token::read(ledger, i);
         if token::stands_at(t, tag, port) {
             return Some(i);
         }
@@ -90,7 +98,7 @@ pub fn seek(links: &Links, ledger: &[u8], used: usize, tag: Tag, port: u8) -> Op
     let mut at = place_at(links, b);
     let mut partner = None;
     while let Some(i) = at {
-        let t = token::token_at(ledger, i);
+        let t = Token::read(ledger, i);
         if t.tag == tag {
             if t.port == port {
                 return None;
@@ -112,7 +120,8 @@ fn link(links: &mut Links, head: usize, link: usize, used: usize)
     links[head] = (used + 1) as u16;
 }
 
-// Puts the token at place `used` and its partner, where it has one, beside each other.
+// Puts the token at place `used` and its partner, where it has one, beside each other. What a place lies below is said in the clauses, for
+// it changes with each token.
 fn pair(links: &mut Links, used: usize, partner: Option<usize>)
     requires { (used < 2048) × FoundWithin partner used }
     ensures { links.new ≡ paired links.old used partner }
@@ -137,7 +146,8 @@ pub fn partner(links: &Links, place: usize) -> Option<usize>
 }
 
 // Enters a token that stands at place `used`, after those before it: in the chain of its tag, beside its partner and, if it is deferred, in
-// the chain of its cell. Chain and partner are those of its slot.
+// the chain of its cell. Chain and partner are those of its slot. A low cell is no invariant of `Token`: a record of a lent ledger may name
+// any cell.
 pub fn enter(links: &mut Links, used: usize, t: Token, slot: Slot)
     requires { (used < 2048) × LowCell t.content × (slot.bucket ≡ bucket_of t.tag) × FoundWithin slot.partner used }
     ensures indexed { (ts : List Token) → length ts ≡ used → Indexed links.old ts → Indexed links.new (ts ++ t ∷ []) }

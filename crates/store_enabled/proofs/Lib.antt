@@ -3,6 +3,6 @@ pub mod Places
 pub mod Right
 pub mod Bytes
 pub mod Single
-pub mod Store
+pub mod Stored
 pub mod Arriving
 pub mod Spending

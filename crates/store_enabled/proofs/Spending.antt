@@ -27,7 +27,7 @@ use Rattle.store_enabled.specs.Store.{Stored, OperandPlaces, EarlierFirst, Spend
 use Rattle.store_enabled.proofs.Places.{live_state, live_off}
 use Rattle.store_enabled.proofs.Bytes.{spent_byte}
 use Rattle.store_enabled.proofs.Right.{all_off, place_kept}
-use Rattle.store_enabled.proofs.Store.{all_at, Moved, changed}
+use Rattle.store_enabled.proofs.Stored.{all_at, Moved, changed}
 
 -- ---- a token
 

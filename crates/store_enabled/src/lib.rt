@@ -2,7 +2,7 @@
 // operands of an activity are spent, and the flag of its activity is put right.
 #![tactic(auto)]
 
-ghost use Rattle.std.specs.Prelude.{◌≡◌, true, ◌&&◌, List, [], ◌∷◌, ◌++◌, ℕ, ◌+◌, ◌/◌, ◌<◌, ltb, length, get_or, set, Some};
+ghost use Rattle.std.specs.Prelude.{◌≡◌, true, ◌&&◌, List, [], ◌∷◌, ◌++◌, ℕ, ◌+◌, ◌/◌, ◌<◌, ltb, length, get_or, set, replicate, Some};
 ghost use Rattle.buffer.specs.Rows.{put_row};
 ghost use Rattle.record.specs.TokensAndTags.{encode_token, tokens, token_at, stands_at};
 ghost use Rattle.record.specs.Widths.{token_width};
@@ -12,6 +12,7 @@ ghost use Rattle.store_chains.specs.Deferred.{LowCell, Waiting};
 ghost use Rattle.store_enabled.specs.Enabled.{is_live_record, operands_live, waited_for, arity_of, earliest_of};
 ghost use Rattle.store_enabled.specs.Store.{Known, Stored, raised_if, live_found, enabled_at, ready_of, ready_with, Last, StandingRecord, Spendable, states_spent, tokens_spent};
 
+use record::codec::Encode;
 use record::tag::Tag;
 use record::token;
 use record::token::{Content, Token};
@@ -23,18 +24,38 @@ pub const TABLES_LENGTH: usize = 641;
 
 pub type Tables = [u16; TABLES_LENGTH];
 
+// What a run keeps beside the records of its ledger: chains through them, and the flags of the enabled activities. The ledger is the
+// caller's bytes (the C interface) and the tables are only read, so both go beside it. The flags stand first: with the links first a run
+// took up to 3 % more instructions.
+#[derive(Drop)]
+pub struct Store {
+    pub flags: Flags,
+    pub links: Links,
+}
+
+impl Store {
+    // Of an empty ledger.
+    pub fn new() -> Store
+        ensures { (result.links ≡ replicate 11264 0) × (result.flags ≡ replicate 2048 0) }
+    {
+        Store {
+            flags: Flags::new(),
+            links: [0; store_chains::LENGTH],
+        }
+    }
+}
+
 // Whether what was found is live: the state of its record is 0.
+#[tactic(auto, using(crate::proofs::Places::live_state))]
 fn live(ledger: &[u8], f: Option<usize>) -> bool
     requires { FoundWithin f (length ledger.now / token_width) }
     ensures { result ≡ live_found (token_at ledger.now) f }
 {
-    match f {
-        Some(i) => ledger[i * token::WIDTH + token::STATE] == 0,
-        None => false,
-    }
+    f.is_some_and(|i| ledger[i * token::WIDTH + token::STATE] == 0)
 }
 
-// Whether all operands of an activity are live, where f and g stand on its ports.
+// Whether all operands of an activity are live, where f and g stand on its ports. Operand counts are numbers, as they stand in the tables of
+// a graph: one array with the returns and the named arrays (docs/DECISIONS.md, 103).
 fn ready(ledger: &[u8], f: Option<usize>, g: Option<usize>, operands: u16) -> bool
     requires { FoundWithin f (length ledger.now / token_width) × FoundWithin g (length ledger.now / token_width) }
     ensures { result ≡ ready_of operands (live_found (token_at ledger.now) f) (live_found (token_at ledger.now) g) }
@@ -51,7 +72,7 @@ fn ready(ledger: &[u8], f: Option<usize>, g: Option<usize>, operands: u16) -> bo
     false
 }
 
-// The same, where `own` stands on a port and `other` on the other one.
+// The same, where `own` stands on a port and `other` on the other one. A port is a number, as in the records of the lent ledger (`Token`).
 fn ready_with(
     ledger: &[u8],
     port: u8,
@@ -71,9 +92,9 @@ fn ready_with(
 
 // Raises the flag of the activity of the token at `own`, if its operands are all live. Its own port is
 // known, so only the partner is looked up.
+// The caller lends the ledger's bytes, so the number of its tokens goes beside them.
 fn settle_changed(
-    flags: &mut Flags,
-    links: &Links,
+    store: &mut Store,
     ledger: &[u8],
     used: usize,
     own: usize,
@@ -81,16 +102,17 @@ fn settle_changed(
     port: u8,
     operands: u16,
 )
-    requires { Known links.now ledger.now used × (own < used) × (port < 2) × (first_from (stands_at tag port) 0 (tokens used ledger.now) ≡ Some own) }
-    ensures flags_after { flags.new
-        ≡ raised_if (operands_live operands (tokens used ledger.now) tag) flags.old
+    requires { Known store.old.links ledger.now used × (own < used) × (port < 2) × (first_from (stands_at tag port) 0 (tokens used ledger.now) ≡ Some own) }
+    ensures links_kept { store.new.links ≡ store.old.links }
+    ensures flags_after { store.new.flags
+        ≡ raised_if (operands_live operands (tokens used ledger.now) tag) store.old.flags
         (earliest_of (tokens used ledger.now) tag) }
 {
-    let other = store_chains::partner(links, own);
+    let other = store_chains::partner(&store.links, own);
     if ready_with(ledger, port, Some(own), other, operands) {
         let place = own.min(other.unwrap_or(own));
-        if !flags.is_raised(place) {
-            flags.raise(place);
+        if !store.flags.is_raised(place) {
+            store.flags.raise(place);
         }
     }
 }
@@ -109,11 +131,13 @@ fn completes(ledger: &[u8], other: Option<usize>, operands: u16) -> bool
     false
 }
 
-// LEAVE's entry in the tables of a graph; any other entry is an operand count. It stays a number, as it stands in the tables.
+// LEAVE's entry in the tables of a graph; any other entry is an operand count. It stays a number: the tables are
+// one array of numbers in fixed memory, and `arity_of`, which the contracts cite, reads each entry there.
 pub const LEAVE_ENTRY: u16 = 3;
 
 // Whether a live token on a port of a tag is an operand and completes its activity, by the entry of its instruction. The path is looked
 // at for LEAVE alone, and no number is made of it.
+#[tactic(auto, unfolding(crate::specs::Enabled::waited_for))]
 fn completes_by(ledger: &[u8], other: Option<usize>, entry: u16, tag: Tag, port: u8) -> bool
     requires { FoundWithin other (length ledger.now / token_width) × (port < 2) }
     ensures { result ≡ ltb port (waited_for entry tag) && ready_of (waited_for entry tag) true (live_found (token_at ledger.now) other) }
@@ -159,6 +183,7 @@ fn settle_arrived(
 
 // How many operands the activity of a tag waits for, by the entry of its instruction. R-5: a token at a LEAVE under path 0 is
 // a result.
+#[tactic(auto, unfolding(crate::specs::Enabled::waited_for))]
 fn waited_for(entry: u16, tag: Tag) -> u16
     ensures { result ≡ waited_for entry tag }
 {
@@ -187,16 +212,16 @@ pub fn arity(tables: &[u16], tag: Tag) -> u16
 // The place of the activity of a tag, if it is enabled: its operands are found by their ports.
 pub fn enabled_by_tag(
     tables: &Tables,
-    links: &Links,
+    store: &Store,
     ledger: &[u8],
     used: usize,
     tag: Tag,
 ) -> Option<usize>
-    requires { Known links.now ledger.now used }
+    requires { Known store.now.links ledger.now used }
     ensures { (result ≡ enabled_at tables.now (tokens used ledger.now) tag) × FoundWithin result used }
 {
-    let first = store_chains::find(links, ledger, used, tag, 0);
-    let second = store_chains::find(links, ledger, used, tag, 1);
+    let first = store_chains::find(&store.links, ledger, used, tag, 0);
+    let second = store_chains::find(&store.links, ledger, used, tag, 1);
     if ready(ledger, first, second, arity(tables, tag)) {
         Some(first.unwrap_or(used).min(second.unwrap_or(used)))
     } else {
@@ -204,17 +229,17 @@ pub fn enabled_by_tag(
     }
 }
 
-// Adds t after the used records, in its slot. A flag that was raised stays.
+// Adds t after the used records, in its slot. A flag that was raised stays. `Stored` is no invariant of the store: it speaks of the ledger's
+// bytes too, which are the caller's.
 pub fn append(
     tables: &Tables,
-    links: &mut Links,
-    flags: &mut Flags,
+    store: &mut Store,
     ledger: &mut [u8],
     used: usize,
     t: Token,
     slot: Slot,
 )
-    requires { Stored tables.now links.old flags.old ledger.old used
+    requires { Stored tables.now store.old.links store.old.flags ledger.old used
         × (used < length ledger.old / token_width)
         × (used < 2048)
         × (t.port < 2)
@@ -222,48 +247,40 @@ pub fn append(
         × Open (tokens used ledger.old) t.tag t.port slot }
     ensures ledger_after { ledger.new ≡ put_row token_width ledger.old used (encode_token t) }
     ensures ledger_after_2 { tokens (used + 1) ledger.new ≡ tokens used ledger.old ++ t ∷ [] }
-    ensures stored { Stored tables.now links.new flags.new ledger.new (used + 1) }
-    ensures waiting { Waiting links.old (tokens used ledger.old) → Waiting links.new (tokens (used + 1) ledger.new) }
+    ensures stored { Stored tables.now store.new.links store.new.flags ledger.new (used + 1) }
+    ensures waiting { Waiting store.old.links (tokens used ledger.old) → Waiting store.new.links (tokens (used + 1) ledger.new) }
 {
     let tag = t.tag;
-    token::put_token(ledger, used, t);
-    store_chains::enter(links, used, t, slot);
+    t.write(ledger, used);
+    store_chains::enter(&mut store.links, used, t, slot);
     let entry = entry_of(tables, tag.instruction);
     let other = slot.partner;
     let content = t.content;
     if let Content::Live(_) = content {
-        settle_arrived(flags, ledger, used, tag, t.port, other, entry);
+        settle_arrived(&mut store.flags, ledger, used, tag, t.port, other, entry);
     }
 }
 
 // Enters the token t that stands in record `used` already, in its slot. One that is not live enables nothing. `settle_arrived` is not called: a
 // second caller would cost each arrival of a run a call.
-pub fn enter(
-    tables: &Tables,
-    links: &mut Links,
-    flags: &mut Flags,
-    ledger: &[u8],
-    used: usize,
-    t: Token,
-    slot: Slot,
-)
-    requires { Stored tables.now links.old flags.old ledger.now used
+pub fn enter(tables: &Tables, store: &mut Store, ledger: &[u8], used: usize, t: Token, slot: Slot)
+    requires { Stored tables.now store.old.links store.old.flags ledger.now used
         × (used < length ledger.now / token_width)
         × (used < 2048)
         × StandingRecord tables.now ledger.now used t
         × LowCell t.content
         × Open (tokens used ledger.now) t.tag t.port slot }
     ensures ledger_value { tokens (used + 1) ledger.now ≡ tokens used ledger.now ++ t ∷ [] }
-    ensures stored { Stored tables.now links.new flags.new ledger.now (used + 1) }
-    ensures waiting { Waiting links.old (tokens used ledger.now) → Waiting links.new (tokens (used + 1) ledger.now) }
+    ensures stored { Stored tables.now store.new.links store.new.flags ledger.now (used + 1) }
+    ensures waiting { Waiting store.old.links (tokens used ledger.now) → Waiting store.new.links (tokens (used + 1) ledger.now) }
 {
     let tag = t.tag;
-    store_chains::enter(links, used, t, slot);
+    store_chains::enter(&mut store.links, used, t, slot);
     let content = t.content;
     if let Content::Live(_) = content {
         let other = slot.partner;
         if completes(ledger, other, arity(tables, tag)) {
-            flags.raise(other.unwrap_or(used));
+            store.flags.raise(other.unwrap_or(used));
         }
     }
 }
@@ -271,26 +288,26 @@ pub fn enter(
 // Puts t, of the same tag and port, in the place of token i. What was live stays so, and so does a flag that was raised.
 pub fn change(
     tables: &Tables,
-    links: &Links,
-    flags: &mut Flags,
+    store: &mut Store,
     ledger: &mut [u8],
     used: usize,
     i: usize,
     t: Token,
 )
-    requires { Stored tables.now links.now flags.old ledger.old used
+    requires { Stored tables.now store.old.links store.old.flags ledger.old used
         × (i < used)
         × (t.tag ≡ (token_at ledger.old i).tag)
         × (t.port ≡ (token_at ledger.old i).port)
         × (is_live_record (token_at ledger.old i).content ≡ true → is_live_record t.content ≡ true) }
     ensures ledger_after { ledger.new ≡ put_row token_width ledger.old i (encode_token t) }
     ensures ledger_after_2 { tokens used ledger.new ≡ set (tokens used ledger.old) i t }
-    ensures stored { Stored tables.now links.now flags.new ledger.new used }
+    ensures links_kept { store.new.links ≡ store.old.links }
+    ensures stored { Stored tables.now store.new.links store.new.flags ledger.new used }
 {
     let tag = t.tag;
-    token::put_token(ledger, i, t);
+    t.write(ledger, i);
     let operands = arity(tables, tag);
-    settle_changed(flags, links, ledger, used, i, tag, t.port, operands);
+    settle_changed(store, ledger, used, i, tag, t.port, operands);
 }
 
 // Spends the operands of an enabled activity, which stand at its place and at another; where one is waited for, both are its place. The

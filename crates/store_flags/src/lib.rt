@@ -103,10 +103,8 @@ fn select_in(word: u64, on: usize, k: usize) -> usize
         return highest(word);
     }
     let mut rest = word;
-    let mut left = k;
-    while left > 0 {
+    for _ in 0..k {
         rest = lowered(rest, lowest(rest));
-        left -= 1;
     }
     lowest(rest)
 }

@@ -1,18 +1,16 @@
 -- Laws of decimal numbers, of any size: the digits of n are those of n / 10 and the digit n % 10; a number below 10 ^ k has k of them at most; and a number
 -- in two parts has the digits of both. Assumes nothing.
-use Prim.Native.Nat.{ℕ, zero, suc, ◌+◌, ◌-◌, ◌*◌, ◌/◌, ◌%◌, ◌^◌, ◌≤◌, ◌<◌}
+use Prim.Native.Nat.{ℕ, zero, suc, ◌+◌, ◌*◌, ◌/◌, ◌%◌, ◌^◌, ◌≤◌, ◌<◌}
 use native.Mathlib.Omega.{arith}
 use native.Mathlib.Nat.{pow-suc, mul_assoc, mul_comm, mul-pos}
-use mathlib.Core.Path.{◌≡◌, refl, sym, ap, ◌∙◌}
+use mathlib.Core.Path.{◌≡◌, refl, ap, ◌∙◌}
 use mathlib.Core.Bool.{Bool, true, false}
 use mathlib.Core.List.{[], ◌∷◌, ◌++◌, append-nil, append_assoc}
 use borrow.Author.Tests.{ltb-true, ltb-false, lt-ltb, le-ltb}
 use lib.Dec.{ltb}
 use lib.ListN.{length, length-append}
-use lib.IntN.{ℤ, pos, negsuc}
-use mir.Syntax.{w32}
-use mir.Val.{SFits}
-use Rattle.number.specs.Number.{bits_of}
+use lib.IntN.{ℤ, pos, negsuc, nat_abs}
+use lib.Signed.{lt_z}
 use Rattle.text.specs.Text.{digit, digits_by, decimal, signed_decimal}
 use Rattle.text.specs.Lines.{last_digits}
 
@@ -48,12 +46,6 @@ pub three_digits : (n : ℕ) → 100 ≤ n → n < 1000 → decimal n ≡ digit 
 three_digits n h k =
     let e : n / 10 / 10 ≡ n / 100 = omega arith in
     decimal_more n (omega arith) ∙ ap (λ l. l ++ digit (n % 10) ∷ []) (two_digits (n / 10) (omega arith) (omega arith) ∙ ap (λ m. digit m ∷ digit (n / 10 % 10) ∷ []) e)
-
-pub length_thousand : (n : ℕ) → 1000 ≤ n → length (decimal n) ≡ 3 + length (decimal (n / 1000))
-length_thousand n h =
-    let e : n / 10 / 10 / 10 ≡ n / 1000 = omega arith in
-    let f = length_more (n / 10 / 10) (omega arith) in
-    omega (arith, length_more n (omega arith), length_more (n / 10) (omega arith), rw e at f)
 
 -- ---- the last k digits
 
@@ -106,18 +98,24 @@ at_most (suc k) n h = go (ltb n 10) refl (λ r. at_most k (n / 10) r)
         let p = r (omega (arith, pow-suc 10 (suc k))) in
         rw (length_more n (ltb-false n 10 e)) (omega arith)
 
+-- and a number from 10 ^ k on has one more
+pub has_digits : (k n : ℕ) → 10 ^ k ≤ n → n < 10 * 10 ^ k → length (decimal n) ≡ suc k
+has_digits zero n h l = ap length (decimal_digit n (omega arith))
+has_digits (suc k) n h l =
+    let p = pow-suc 10 k in
+    let s = some_power k in
+    length_more n (omega arith) ∙ ap suc (has_digits k (n / 10) (omega arith) (omega arith))
+  where
+    some_power : (k : ℕ) → 0 < 10 ^ k
+    some_power zero = omega arith
+    some_power (suc k) = omega (arith, pow-suc 10 k, some_power k)
+
 -- a machine number has 20 digits at most
 pub short : (n : ℕ) → n < 2 ^ 64 → length (decimal n) ≤ 20
 short n h = at_most 19 n (omega arith)
 
--- ---- signed numbers, by their bits
+-- ---- a number below 0: a minus and its size
 
-pub signed_up : (z : ℤ) (b : ℕ) → SFits w32 z → b ≡ bits_of z → b < 2147483648 → signed_decimal z ≡ decimal b
-unfolding bits_of
-signed_up (pos n) b f e h = ap decimal (sym e)
-signed_up (negsuc n) b f e h = absurd (omega (arith, f.sfits))
-
-pub signed_down : (z : ℤ) (b : ℕ) → SFits w32 z → b ≡ bits_of z → 2147483648 ≤ b → signed_decimal z ≡ 45 ∷ decimal (4294967296 - b)
-unfolding bits_of
-signed_down (pos n) b f e h = absurd (omega (arith, f.sfits))
-signed_down (negsuc n) b f e h = let g : suc n ≡ 4294967296 - b = omega (arith, f.sfits) in rw g
+pub signed_minus : (z : ℤ) → lt_z z (pos 0) ≡ true → signed_decimal z ≡ 45 ∷ decimal (nat_abs z)
+signed_minus (pos n) e = absurd (omega (arith, ltb-true n 0 e))
+signed_minus (negsuc n) e = refl

@@ -1,20 +1,17 @@
--- Lemmas on the fields of a token's line: digits of the table, a signed number by its bits, the word of a state; on lines put from any place on; and on cells that have none. Assumes nothing.
-use Prim.Native.Nat.{ℕ, zero, suc, ◌+◌, ◌-◌, ◌*◌, ◌/◌, ◌%◌, ◌≤◌, ◌<◌}
+-- Lemmas on the fields of a token's line: digits of the table, the word of a state; on lines put from any place on; and on cells that have none. Assumes nothing.
+use Prim.Native.Nat.{ℕ, zero, suc, ◌+◌, ◌*◌, ◌/◌, ◌%◌, ◌≤◌, ◌<◌}
 use native.Mathlib.Omega.{arith}
 use native.Mathlib.Nat.{zero-add}
 use mathlib.Core.Path.{◌≡◌, refl, sym, ap, ◌∙◌}
 use mathlib.Core.Bool.{Bool, true, false}
-use mathlib.Core.List.{List, [], ◌∷◌, ◌++◌, append-nil}
+use mathlib.Core.List.{List, [], ◌++◌, append-nil}
 use lib.Dec.{T, eqb, ltb, eqb→eq}
 use lib.Bits.{bit_or, or_comm, or_add_and, and_le_r}
 use lib.ListN.{length, get_or, drop, length-map}
 use lib.Seq.{get_or-drop}
 use borrow.Author.Tests.{eq-eqb, ne_eqb, lt-ltb, le-ltb, ltb-true, ltb-false}
-use mir.Syntax.{w32}
-use mir.Facts.{sfits_to_z}
-use mir.Val.{SFits}
-use Rattle.number.specs.Number.{byte_at, signed_of}
-use Rattle.number.proofs.Numbers.{bits_signed}
+use Rattle.number.specs.Number.{signed_of}
+use Rattle.number.specs.Number as Number
 use Rattle.buffer.specs.Rows.{rows}
 use Rattle.buffer.proofs.Tables.{length_rows, get_d_rows}
 use Rattle.record.specs.TokensAndTags as Tokens
@@ -26,9 +23,9 @@ use Rattle.record.specs.declared.cell.Cell.TheVariants.{Absent}
 use Rattle.record.specs.Widths.{token_width, cell_width}
 use Rattle.record.proofs.Computed.{every, at}
 use Rattle.text.specs.Words.{bytes}
-use Rattle.text.specs.Text.{digit, decimal, signed_decimal, state_word, token_line, cell_line}
+use Rattle.text.specs.Text.{digit, decimal, state_word, token_line, cell_line}
 use Rattle.text.specs.Lines.{RoomForText, AddedText, packed_digits, Table, text_of_lines, token_lines, lines_of_cells, AbsentFrom}
-use Rattle.text.proofs.Decimals.{decimal_digit, length_more, signed_up, signed_down}
+use Rattle.text.proofs.Decimals.{decimal_digit, length_more}
 use Rattle.text.proofs.Lines.{both}
 use Rattle.text.proofs.Whole.{map_rows, length_cells, cell_line_lem, made, made_next, made_longer, made_within}
 
@@ -40,19 +37,13 @@ right n x = eqb x (packed_digits n)
 pub tabled : (t : List ℕ) → T (every right 0 t) → length t ≡ 1000 → Table t
 tabled t h e = record { entry = λ n l. eqb→eq (get_or t n 0) (packed_digits n) (at right t h n (omega arith)) }
 
--- the bytes of a number
-two_bytes : (w x y : ℕ) → w ≡ x + 256 * y → x < 256 → y < 256 → (w % 256 ≡ x) × (w / 256 % 256 ≡ y)
-two_bytes w x y e h k = (omega arith, omega arith)
+-- the digits are its bytes
+module _ (n : ℕ) where
+  pub two : n < 100 → (packed_digits n % 256 ≡ digit (n / 10)) × (packed_digits n / 256 % 256 ≡ digit (n % 10))
+  two l = rw (lt-ltb n 100 l) (omega arith, omega arith)
 
-three_bytes : (w x y z : ℕ) → w ≡ x + 256 * (y + 256 * z) → x < 256 → y < 256 → z < 256 → (w % 256 ≡ x) × (w / 256 % 256 ≡ y) × (w / 65536 % 256 ≡ z)
-three_bytes w x y z e h k l = (omega arith, omega arith, omega arith)
-
-module _ (w n : ℕ) (e : w ≡ packed_digits n) where
-  pub two : n < 100 → (w % 256 ≡ digit (n / 10)) × (w / 256 % 256 ≡ digit (n % 10))
-  two l = two_bytes w (digit (n / 10)) (digit (n % 10)) (e ∙ rw (lt-ltb n 100 l)) (omega arith) (omega arith)
-
-  pub three : 100 ≤ n → n < 1000 → (w % 256 ≡ digit (n / 100)) × (w / 256 % 256 ≡ digit (n / 10 % 10)) × (w / 65536 % 256 ≡ digit (n % 10))
-  three l k = three_bytes w (digit (n / 100)) (digit (n / 10 % 10)) (digit (n % 10)) (e ∙ rw (le-ltb n 100 l)) (omega arith) (omega arith) (omega arith)
+  pub three : 100 ≤ n → n < 1000 → (packed_digits n % 256 ≡ digit (n / 100)) × (packed_digits n / 256 % 256 ≡ digit (n / 10 % 10)) × (packed_digits n / 65536 % 256 ≡ digit (n % 10))
+  three l k = rw (le-ltb n 100 l) (omega arith, omega arith, omega arith)
 
 -- ---- how many digits there are at least
 
@@ -68,18 +59,6 @@ long2 n h = omega (arith, length_more n h, long1 (n / 10))
 
 pub long3 : (n : ℕ) → 100 ≤ n → 3 ≤ length (decimal n)
 long3 n h = omega (arith, length_more n (omega arith), long2 (n / 10) (omega arith))
-
--- ---- a signed number by its bits
-
-signed_fits : (b : ℕ) → b < 4294967296 → SFits w32 (signed_of b)
-unfolding signed_of
-signed_fits b h = sfits_to_z (record { fits = h })
-
-pub bits_up : (b : ℕ) → b < 2147483648 → signed_decimal (signed_of b) ≡ decimal b
-bits_up b h = signed_up (signed_of b) b (signed_fits b (omega arith)) (sym (bits_signed b (omega arith))) h
-
-pub bits_down : (b : ℕ) → b < 4294967296 → 2147483648 ≤ b → signed_decimal (signed_of b) ≡ 45 ∷ decimal (4294967296 - b)
-bits_down b l h = signed_down (signed_of b) b (signed_fits b l) (sym (bits_signed b l)) h
 
 -- ---- the content of a state
 
@@ -145,21 +124,21 @@ or_none : (a b : ℕ) → bit_or a b ≡ 0 → (a ≡ 0) × (b ≡ 0)
 or_none a b e = (omega (arith, or_add_and a b, and_le_r a b), omega (arith, or_comm a b, or_add_and b a, and_le_r b a))
 
 -- the state of the j-th cell from k on
-state_from : (cells : List ℕ) (k j : ℕ) → byte_at (drop ((k + j) * cell_width) cells) 4 ≡ byte_at (drop (k * cell_width) cells) (j * cell_width + 4)
+state_from : (cells : List ℕ) (k j : ℕ) → Number.byte_at (drop ((k + j) * cell_width) cells) 4 ≡ Number.byte_at (drop (k * cell_width) cells) (j * cell_width + 4)
 state_from cells k j =
     let e : (k + j) * cell_width + 4 ≡ k * cell_width + (j * cell_width + 4) = omega arith in
     get_or-drop ((k + j) * cell_width) cells 4 0 ∙ ap (λ (i : ℕ). get_or cells i 0) e ∙ sym (get_or-drop (k * cell_width) cells (j * cell_width + 4) 0)
 
 -- byte i from cell k on is 0
 abbrev zero_in : (cells : List ℕ) → (k i : ℕ) → Type 0
-zero_in cells k i = byte_at (drop (k * cell_width) cells) i ≡ 0
+zero_in cells k i = Number.byte_at (drop (k * cell_width) cells) i ≡ 0
 
 absent_at : (cells : List ℕ) (k j : ℕ) → zero_in cells k (j * cell_width + 4) → Cells.cell_of_record cells (k + j) ≡ Absent
 unfolding Cells.decode_cell Cells.cell_of
 absent_at cells k j e = rw (state_from cells k j ∙ e)
 
 pub eight_absent : (cells : List ℕ) (k : ℕ) → let s = drop (k * cell_width) cells in
-    bit_or (bit_or (bit_or (bit_or (bit_or (bit_or (bit_or (byte_at s 4) (byte_at s 12)) (byte_at s 20)) (byte_at s 28)) (byte_at s 36)) (byte_at s 44)) (byte_at s 52)) (byte_at s 60) ≡ 0 → AbsentFrom cells k 8
+    bit_or (bit_or (bit_or (bit_or (bit_or (bit_or (bit_or (Number.byte_at s 4) (Number.byte_at s 12)) (Number.byte_at s 20)) (Number.byte_at s 28)) (Number.byte_at s 36)) (Number.byte_at s 44)) (Number.byte_at s 52)) (Number.byte_at s 60) ≡ 0 → AbsentFrom cells k 8
 eight_absent cells k e =
     let h7 = or_none _ _ e in
     let h6 = or_none _ _ h7.0 in
@@ -180,9 +159,6 @@ eight_absent cells k e =
     each a b c d e f g h (suc (suc (suc (suc (suc (suc zero)))))) l = absent_at cells k 6 g
     each a b c d e f g h (suc (suc (suc (suc (suc (suc (suc zero))))))) l = absent_at cells k 7 h
     each a b c d e f g h (suc (suc (suc (suc (suc (suc (suc (suc j)))))))) l = absurd (omega arith)
-
-pub one_absent : (cells : List ℕ) (k : ℕ) → Cells.cell_of_record cells k ≡ Absent → AbsentFrom cells k 1
-one_absent cells k a j h = let e : k + j ≡ k = omega arith in rw e a
 
 -- so their lines are none
 pub made_passed : (cells : List ℕ) (k n : ℕ) → k + n ≤ length cells / cell_width → AbsentFrom cells k n → made (lines_of_cells cells) (k + n) ≡ made (lines_of_cells cells) k

@@ -1,11 +1,10 @@
 -- Lemmas on texts put one after another. Assumes nothing.
 use Prim.Native.Nat.{ℕ, zero, suc, ◌+◌, ◌-◌, ◌/◌, ◌%◌, ◌≤◌, ◌<◌}
 use native.Mathlib.Omega.{arith}
-use native.Mathlib.Numerals.{add-one}
 use mathlib.Core.Path.{◌≡◌, refl, sym, ap, ◌∙◌}
-use mathlib.Core.List.{List, [], ◌∷◌, ◌++◌, append_assoc, append-nil}
+use mathlib.Core.List.{List, [], ◌∷◌, ◌++◌, append_assoc}
 use lib.ListN.{length, take, drop, set, length-append, length-drop, length-set, take-append-drop}
-use lib.Seq.{take-suc-set, take-set-le, drop-set-lt, set_split, take_at, drop_at, take-add, take-take, drop-drop, length-take-le}
+use lib.Seq.{take-set-le, set_split, take_at, drop_at, take-add, take-take, drop-drop, length-take-le}
 use Rattle.buffer.specs.Rows.{written}
 use Rattle.rules.specs.Answer.{number_of}
 use Rattle.rules.specs.declared.answer.Outcome.{Outcome}
@@ -14,19 +13,6 @@ use Rattle.text.specs.Words.{bytes}
 use Rattle.text.specs.Text.{digit, decimal, line, outcome_fields}
 use Rattle.text.specs.Lines.{RoomForText, AddedText, last_digits, spaced}
 use Rattle.text.proofs.Decimals.{length_last}
-
--- a byte
-pub added_byte : (l : List ℕ) (at b : ℕ) → at < length l → AddedText l (set l at b) at (at + 1) (b ∷ [])
-added_byte l at b h = record {
-  kept = length-set l at b;
-  place = refl;
-  bytes = rw (add-one at) (take-suc-set l at b h);
-  behind = drop-set-lt (at + 1) l at b (omega arith);
-}
-
--- no byte
-pub added_none : (l : List ℕ) (at : ℕ) → AddedText l l at at []
-added_none l at = record { kept = refl; place = omega arith; bytes = sym (append-nil (take at l)); behind = refl }
 
 -- a text
 pub added_written : (l : List ℕ) (at : ℕ) (w : List ℕ) → at + length w ≤ length l → AddedText l (written l at w) at (at + length w) w
@@ -67,9 +53,6 @@ module _ (lent : List ℕ) (at k n : ℕ) where
     pub front : take (at + left) out ≡ take (at + left) lent
     pub digits : last_digits left rest ++ drop (at + left) out ≡ last_digits k n ++ drop (at + k) lent
 
-  pub putting_first : Putting lent n k
-  putting_first = record { few = omega arith; kept = refl; front = refl; digits = refl }
-
   pub putting_next : (out : List ℕ) (rest left : ℕ) → at + k ≤ length lent → 0 < left → Putting out rest left
       → Putting (set out (at + (left - 1)) (digit (rest % 10))) (rest / 10) (left - 1)
   putting_next out rest zero h z p = absurd (omega arith)
@@ -108,6 +91,10 @@ room_first s t h = record { room = omega (arith, length-append s t) }
 
 pub room_rest : {l m : List ℕ} {at k : ℕ} {s : List ℕ} (t : List ℕ) → AddedText l m at k s → RoomForText l at (s ++ t) → RoomForText m k t
 room_rest {s = s} t a h = record { room = omega (arith, length-append s t, a.place, a.kept) }
+
+-- for a text and the byte that ends it
+pub room_end : {l : List ℕ} {at : ℕ} (s : List ℕ) (e : ℕ) → RoomForText l at (s ++ e ∷ []) → at + length s < length l
+room_end s e h = omega (arith, length-append s (e ∷ []), h.room)
 
 -- ---- a line of two fields or more: its first field, and the line of the others
 

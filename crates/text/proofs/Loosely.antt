@@ -8,7 +8,6 @@ use lib.ListN.{length, get_or, take, drop, length-append, length-drop}
 use lib.Seq.{length-take-le, take_at, drop_at, take-add, take-take, take-append-add, drop-drop}
 use Rattle.buffer.specs.Rows.{written}
 use Rattle.record.specs.Paths.{path_number}
-use Rattle.record.specs.declared.tag.Path.{Path}
 use Rattle.record.specs.declared.token.Token.{Token}
 use Rattle.record.specs.declared.token.Content.{Content}
 use Rattle.record.specs.declared.token.Content.TheVariants.{Live, Spent, Deferred}
@@ -152,8 +151,3 @@ module _ (t : Token) {text : List ℕ} {k : ℕ} (p : PathText text k t.tag.path
 
   pub whole_line : {l m n : List ℕ} {at r q : ℕ} → AddedLoosely l m at r (take k text) → AddedText m n r q (rest_line t) → AddedText l n at q (token_line t)
   whole_line a b = rw in_two (loosely_then (rw p.text at a) b (rest_long t))
-
--- the text of a path is that of every path of the same words
-pub path_kept : {t : List ℕ} {k : ℕ} {last path : Path} → PathText t k last → path.low ≡ last.low → path.high ≡ last.high → PathText t k path
-unfolding path_number
-path_kept p l h = record { size = p.size; fits = p.fits; text = rw (l, h) p.text }

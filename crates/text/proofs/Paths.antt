@@ -82,15 +82,6 @@ module _ (p : Path) (fits : p.low < 2 ^ 64) where
   pub tenth_digit : path_number p % 10 ≡ lower_of % 10
   tenth_digit = in_parts.rest
 
-  pub upper_fits : upper_of < 2 ^ 64
-  upper_fits =
-      let a : p.high % 10 < 10 = omega arith in
-      let b : p.low / part < part = omega arith in
-      sum (p.high % 10) (p.low / part) a b
-    where
-      sum : (a b : ℕ) → a < 10 → b < part → a * part + b < 2 ^ 64
-      sum a b f g = omega arith
-
 -- ---- what the loops know
 
 module _ (p : Path) where

@@ -3,7 +3,7 @@ use Prim.Native.Nat.{ℕ, zero, suc, ◌+◌, ◌-◌, ◌*◌, ◌/◌, ◌^◌
 use native.Mathlib.Omega.{arith}
 use native.Mathlib.Nat.{suc-mul, le_trans}
 use mathlib.Core.Path.{◌≡◌, refl, ap, subst, ◌∙◌}
-use mathlib.Core.Bool.{Bool, true, false, cond}
+use mathlib.Core.Bool.{Bool, true, false}
 use mathlib.Core.List.{List, [], ◌∷◌, ◌++◌, map}
 use borrow.Author.Tests.{leb-true, leb-false, le-leb}
 use lib.Dec.{leb}
@@ -32,7 +32,7 @@ use Rattle.rules.specs.declared.answer.Outcome.{Outcome}
 use Rattle.rules.specs.declared.answer.Outcome.TheVariants as Outcomes
 use Rattle.rules.specs.declared.answer.Answer.{Answer}
 use Rattle.text.specs.Words.{bytes}
-use Rattle.std.specs.Prelude.{Ok, Err}
+use Rattle.std.specs.Prelude.{Ok}
 use Rattle.text.specs.Text.{decimal, signed_decimal, line, outcome_fields, state_word, answer_line, token_line, stated_line, cell_line, cell_lines, lines, printed, printed_of}
 use Rattle.text.specs.Room.{AnswerFits, most_bytes_of}
 use Rattle.text.proofs.Paths.{path_short}

@@ -1,6 +1,8 @@
 // The decimal digits of the numbers below 1000: a table, and what reads it.
 ghost use Rattle.std.specs.Prelude.{◌≡◌, ◌<◌};
-ghost use Rattle.text.specs.Lines.{packed_digits, Table};
+ghost use Rattle.text.specs.Lines.{packed_digits};
+
+use std::marker::Model;
 
 // Entry n has the bytes of n's last two digits, the first of them lowest; of its three, where it has three. Ten to a line, in order.
 #[rattlefmt::skip]
@@ -108,16 +110,32 @@ const SMALL: [u32; 1000] = [
 ];
 
 // The table, which is taken once and lent.
-pub fn small() -> [u32; 1000]
-    ensures { Table result }
-{
-    SMALL
+#[derive(Drop)]
+pub struct Small {
+    entries: [u32; 1000],
 }
 
-// An entry of it.
-pub fn entry(small: &[u32; 1000], n: usize) -> u32
-    requires { (n < 1000) × Table small.now }
-    ensures { result ≡ packed_digits n }
-{
-    small[n]
+impl Model for Small {
+    ghost use Rattle.std.specs.Prelude.{ℕ, List};
+    ghost use Rattle.text.specs.Lines.{Table};
+
+    ghost Value = { List ℕ };
+
+    ghost view = { λ s. s.entries };
+
+    ghost invariant = { λ s. Table s.entries };
+}
+
+impl Small {
+    pub fn new() -> Small {
+        Small { entries: SMALL }
+    }
+
+    // The digits of n, one to a byte.
+    pub fn entry(&self, n: usize) -> u32
+        requires { n < 1000 }
+        ensures { result ≡ packed_digits n }
+    {
+        self.entries[n]
+    }
 }

@@ -12,8 +12,11 @@ ghost use Rattle.record.specs.Cells as Cells;
 ghost use Rattle.record.specs.declared.cell.Cell.TheVariants.{Absent};
 ghost use Rattle.record.specs.Widths.{token_width, cell_width};
 
+use crate::digits::Small;
 use record::cell::Cell;
+use record::codec::Decode;
 use record::tag::Path;
+use record::token::Token;
 use record::{cell, token};
 use rules::answer::{Answer, Outcome};
 use std::error::Error;
@@ -46,7 +49,8 @@ fn count(listing: &[u8], cells: &[u8]) -> usize
     1 + (listing.len() / token::WIDTH + cells.len() / cell::WIDTH)
 }
 
-// Puts line j into `out` from `at` on; that of an absent cell is empty.
+// Puts line j into `out` from `at` on; that of an absent cell is empty. The answer, the listing and the cells stay three:
+// in one struct no proof of `fits` closed, which needs that the items of both slices are bytes.
 fn put_line(
     out: &mut [u8],
     at: usize,
@@ -62,10 +66,10 @@ fn put_line(
     if j == 0 {
         line::put_answer(out, at, answer)
     } else if j <= tokens {
-        line::put_token(out, at, token::token_at(listing, j - 1))
+        line::put_token(out, at, Token::read(listing, j - 1))
     } else {
         let k = j - 1 - tokens;
-        line::put_cell(out, at, k, cell::cell_at(cells, k))
+        line::put_cell(out, at, k, Cell::read(cells, k))
     }
 }
 
@@ -99,6 +103,7 @@ fn longest_fits(first: usize, listing: &[u8], cells: &[u8], room: usize) -> bool
 
 // Whether the text is at most `room` bytes long. Where the longest one is, no line has to be made. Else
 // each line is taken off the room, since the length itself may be past what a usize holds.
+#[tactic(auto, unfolding(crate::specs::Text::printed))]
 fn fits(answer: Answer, listing: &[u8], cells: &[u8], room: usize) -> bool
     ensures { result ≡ leb (length (printed answer listing.now cells.now)) room }
 {
@@ -123,7 +128,7 @@ fn put_tokens(out: &mut [u8], from: usize, listing: &[u8]) -> usize
     requires { RoomForText out.old from (text_of_lines (token_lines listing.now)) }
     ensures { AddedText out.old out.new from result (text_of_lines (token_lines listing.now)) }
 {
-    let small = digits::small();
+    let small = Small::new();
     let n = listing.len() / token::WIDTH;
     let mut text = [0u8; 40];
     let mut last = Path { low: 0, high: 0 };
@@ -144,11 +149,7 @@ fn has_line(cells: &[u8], k: usize) -> bool
     requires { k < length cells.now / cell_width }
     ensures { result ≡ false → Cells.cell_of_record cells.now k ≡ Absent }
 {
-    match cell::cell_at(cells, k) {
-        Cell::Absent => false,
-        Cell::Waiting => true,
-        Cell::Present(_) => true,
-    }
+    !matches!(Cell::read(cells, k), Cell::Absent)
 }
 
 // All bits of the states of the eight cells from k on.
@@ -190,7 +191,7 @@ fn put_cells(out: &mut [u8], from: usize, cells: &[u8]) -> usize
     while k < n {
         let absent = passed_over(cells, k);
         if absent == 0 {
-            at = line::put_cell(out, at, k, cell::cell_at(cells, k));
+            at = line::put_cell(out, at, k, Cell::read(cells, k));
             k += 1;
         } else {
             k += absent;
@@ -200,6 +201,7 @@ fn put_cells(out: &mut [u8], from: usize, cells: &[u8]) -> usize
 }
 
 // Writes the text to the start of `out`, line by line in place, and answers how long it is.
+#[tactic(auto, unfolding(crate::specs::Text::printed))]
 fn write(answer: Answer, listing: &[u8], cells: &[u8], out: &mut [u8]) -> usize
     requires { RoomForText out.old 0 (printed answer listing.now cells.now) }
     ensures { AddedText out.old out.new 0 result (printed answer listing.now cells.now) }
@@ -211,6 +213,7 @@ fn write(answer: Answer, listing: &[u8], cells: &[u8], out: &mut [u8]) -> usize
 
 // Prints an answer, the tokens of a listing and the cells that are not absent to the start of `out`, and
 // answers how many bytes were written. `out` stays untouched unless the whole text fits.
+#[tactic(auto, unfolding(crate::specs::Text::printed_of, crate::specs::Text::printed_out))]
 pub fn print(
     answer: Answer,
     listing: &[u8],

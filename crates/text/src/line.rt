@@ -1,5 +1,7 @@
 // Printed lines, made in place: each function puts a text into a buffer from `at` on, answers where it
 // ends, and leaves every other byte as it was. It asks for room for just that text.
+// `out` and `at` stay two: as one struct they made printing 2 to 5 % slower passed by value, and a fifth slower lent, as `write!`
+// would have it lent.
 ghost use Rattle.std.specs.Prelude.{◌≡◌, ◌<◌, ◌≤◌, ◌+◌, ◌*◌, ◌/◌, ◌%◌, [], ◌∷◌, ◌++◌, length, take, drop};
 ghost use Rattle.buffer.specs.Rows.{written};
 ghost use Rattle.number.specs.Number.{signed_of};
@@ -9,9 +11,9 @@ ghost use Rattle.record.specs.TokensAndTags as Tokens;
 ghost use Rattle.record.specs.TokensAndTags.{content_of, path_in, value_in};
 ghost use Rattle.rules.specs.Answer.{place_in};
 ghost use Rattle.text.specs.Text.{decimal, signed_decimal, state_word, outcome_fields, answer_line, token_line, stated_line, cell_line};
-ghost use Rattle.text.specs.Lines.{RoomForText, AddedText, last_digits, spaced, Table, rest_line, PathText, AddedLoosely};
+ghost use Rattle.text.specs.Lines.{RoomForText, AddedText, last_digits, spaced, rest_line, PathText, AddedLoosely};
 
-use crate::digits;
+use crate::digits::Small;
 use record::cell::Cell;
 use record::tag::Path;
 use record::token;
@@ -31,19 +33,7 @@ fn put_byte(out: &mut [u8], at: usize, b: u8) -> usize
 fn digits(n: u64) -> usize
     ensures { result ≡ length (decimal n) }
 {
-    let mut rest = n;
-    let mut k = 0;
-    while 1000 <= rest {
-        rest /= 1000;
-        k += 3;
-    }
-    if rest < 10 {
-        k + 1
-    } else if rest < 100 {
-        k + 2
-    } else {
-        k + 3
-    }
+    if n == 0 { 1 } else { n.ilog10() as usize + 1 }
 }
 
 // Puts the last k digits of n, the last one first.
@@ -52,6 +42,7 @@ fn put_last_digits(out: &mut [u8], at: usize, k: usize, n: u64) -> usize
     ensures { AddedText out.old out.new at result (last_digits k n) }
 {
     let mut rest = n;
+    // By number: the digits are put from the last one back.
     for left in (0..k).rev() {
         out[at + left] = 48 + (rest % 10) as u8;
         rest /= 10;
@@ -119,6 +110,7 @@ fn path_digits(path: Path) -> usize
 {
     let mut rest = path;
     let mut k = 0;
+    // No `for`: how often it goes round is what is asked for.
     while rest.high != 0 {
         let d = by_ten(rest);
         rest = d.quotient;
@@ -154,18 +146,17 @@ fn put_path(out: &mut [u8], at: usize, path: Path, end: u8) -> usize
     put_byte(out, k, end)
 }
 
-// Puts a signed number, and the byte that ends the field. The magnitude of a number below 0 is what its
-// bits lack of 2 to the 32, so the least number needs no case of its own.
+// Puts a signed number, and the byte that ends the field.
 fn put_signed(out: &mut [u8], at: usize, value: i32, end: u8) -> usize
     requires { RoomForText out.old at (signed_decimal value ++ end ∷ []) }
     ensures { AddedText out.old out.new at result (signed_decimal value ++ end ∷ []) }
 {
-    let bits = number::bits(value);
-    if bits < 2147483648 {
-        put_number(out, at, bits as u64, end)
-    } else {
+    let magnitude = u64::from(value.unsigned_abs());
+    if value < 0 {
         let k = put_byte(out, at, b'-');
-        put_number(out, k, 4294967296 - bits as u64, end)
+        put_number(out, k, magnitude, end)
+    } else {
+        put_number(out, at, magnitude, end)
     }
 }
 
@@ -190,15 +181,16 @@ fn value_in(content: Content) -> i32
 }
 
 // Puts a number below 1000 and a space: where it has more than one digit, those of the table.
-fn put_small(out: &mut [u8], at: usize, small: &[u32; 1000], n: usize) -> usize
-    requires { (n < 1000) × Table small.now × RoomForText out.old at (decimal n ++ 32 ∷ []) }
+fn put_small(out: &mut [u8], at: usize, small: &Small, n: usize) -> usize
+    requires { (n < 1000) × RoomForText out.old at (decimal n ++ 32 ∷ []) }
     ensures { AddedText out.old out.new at result (decimal n ++ 32 ∷ []) }
 {
     if n < 10 {
         let k = put_byte(out, at, 48 + n as u8);
         return put_byte(out, k, b' ');
     }
-    let w = digits::entry(small, n);
+    // By division: with `to_le_bytes` printing took a tenth longer.
+    let w = small.entry(n);
     let second = put_byte(out, at, (w % 256) as u8);
     let third = put_byte(out, second, (w / 256 % 256) as u8);
     if n < 100 {
@@ -209,8 +201,8 @@ fn put_small(out: &mut [u8], at: usize, small: &[u32; 1000], n: usize) -> usize
 }
 
 // Puts a number and a space.
-fn put_field(out: &mut [u8], at: usize, small: &[u32; 1000], n: u64) -> usize
-    requires { Table small.now × RoomForText out.old at (decimal n ++ 32 ∷ []) }
+fn put_field(out: &mut [u8], at: usize, small: &Small, n: u64) -> usize
+    requires { RoomForText out.old at (decimal n ++ 32 ∷ []) }
     ensures { AddedText out.old out.new at result (decimal n ++ 32 ∷ []) }
 {
     if n < 1000 {
@@ -221,19 +213,22 @@ fn put_field(out: &mut [u8], at: usize, small: &[u32; 1000], n: u64) -> usize
 }
 
 // Puts a signed number, which its bits tell, and a space.
-fn put_bits(out: &mut [u8], at: usize, small: &[u32; 1000], bits: u32) -> usize
-    requires { Table small.now × RoomForText out.old at (signed_decimal (signed_of bits) ++ 32 ∷ []) }
+fn put_bits(out: &mut [u8], at: usize, small: &Small, bits: u32) -> usize
+    requires { RoomForText out.old at (signed_decimal (signed_of bits) ++ 32 ∷ []) }
     ensures { AddedText out.old out.new at result (signed_decimal (signed_of bits) ++ 32 ∷ []) }
 {
-    if bits < 2147483648 {
-        put_field(out, at, small, bits as u64)
-    } else {
+    let value = number::signed(bits);
+    let magnitude = u64::from(value.unsigned_abs());
+    if value < 0 {
         let k = put_byte(out, at, b'-');
-        put_field(out, k, small, 4294967296 - bits as u64)
+        put_field(out, k, small, magnitude)
+    } else {
+        put_field(out, at, small, magnitude)
     }
 }
 
-// Puts the word of a state, which ends the line of a token.
+// Puts the word of a state, which ends the line of a token. The state is a record's byte: decoding the token for it made
+// printing 2 to 8 % slower.
 fn put_state_of(out: &mut [u8], at: usize, bits: u32, state: u8) -> usize
     requires { RoomForText out.old at (state_word (content_of bits state) ++ 10 ∷ []) }
     ensures { AddedText out.old out.new at result (state_word (content_of bits state) ++ 10 ∷ []) }
@@ -248,8 +243,9 @@ fn put_state_of(out: &mut [u8], at: usize, bits: u32, state: u8) -> usize
 }
 
 // Puts the line of the token of the record that s starts with, from its iteration on.
-fn put_rest(out: &mut [u8], at: usize, small: &[u32; 1000], s: &[u8]) -> usize
-    requires { (token_width ≤ length s.now) × Table small.now × RoomForText out.old at (rest_line (Tokens.decode_token s.now)) }
+#[tactic(auto, unfolding(record::specs::TokensAndTags::decode_token))]
+fn put_rest(out: &mut [u8], at: usize, small: &Small, s: &[u8]) -> usize
+    requires { (token_width ≤ length s.now) × RoomForText out.old at (rest_line (Tokens.decode_token s.now)) }
     ensures { AddedText out.old out.new at result (rest_line (Tokens.decode_token s.now)) }
 {
     let bits = number::u32_at(s, 20);
@@ -260,7 +256,8 @@ fn put_rest(out: &mut [u8], at: usize, small: &[u32; 1000], s: &[u8]) -> usize
     put_state_of(out, value, bits, s[24])
 }
 
-// Makes the text of a path, with a space behind it, at the start of `text`, and answers its length.
+// Makes the text of a path, with a space behind it, at the start of `text`, and answers its length. As one struct with its
+// length and its path the text took three instructions more for each token.
 pub fn make_path(text: &mut [u8], path: Path) -> usize
     requires { length text.old ≡ 40 }
     ensures { PathText text.new result path }
@@ -273,10 +270,8 @@ pub fn keep_path(text: &mut [u8], count: usize, last: Path, path: Path) -> usize
     requires { PathText text.old count last }
     ensures { PathText text.new result path }
 {
-    if path.low == last.low {
-        if path.high == last.high {
-            return count;
-        }
+    if path == last {
+        return count;
     }
     make_path(text, path)
 }
@@ -324,15 +319,16 @@ fn put_eights(out: &mut [u8], at: usize, text: &[u8], count: usize) -> usize
 }
 
 // Puts the line of the token of the record that s starts with; `text` starts with its path.
+#[tactic(auto, unfolding(record::specs::TokensAndTags::decode_token))]
 pub fn put_record(
     out: &mut [u8],
     at: usize,
-    small: &[u32; 1000],
+    small: &Small,
     text: &[u8],
     count: usize,
     s: &[u8],
 ) -> usize
-    requires token_width_in_bounds { (token_width ≤ length s.now) × Table small.now × PathText text.now count (path_in s.now) }
+    requires token_width_in_bounds { (token_width ≤ length s.now) × PathText text.now count (path_in s.now) }
     requires room_for_text { RoomForText out.old at (token_line (Tokens.decode_token s.now)) }
     ensures { AddedText out.old out.new at result (token_line (Tokens.decode_token s.now)) }
 {
@@ -340,7 +336,7 @@ pub fn put_record(
     put_rest(out, rest, small, s)
 }
 
-// The path of the record that s starts with.
+// The path of the record that s starts with, alone: `put_record` reads the rest.
 pub fn path_of(s: &[u8]) -> Path
     requires { token_width ≤ length s.now }
     ensures { result ≡ path_in s.now }
@@ -351,7 +347,9 @@ pub fn path_of(s: &[u8]) -> Path
     }
 }
 
-// Puts the line of a token.
+// Puts the line of a token. It shares no `put_rest` with `put_record`: called from two places, that one was no longer
+// compiled into the loop over the tokens, and printing took an eighth longer.
+#[tactic(auto, unfolding(crate::specs::Text::token_line))]
 pub fn put_token(out: &mut [u8], at: usize, t: Token) -> usize
     requires { RoomForText out.old at (token_line t) }
     ensures { AddedText out.old out.new at result (token_line t) }
@@ -379,6 +377,7 @@ fn put_stated(out: &mut [u8], at: usize, k: usize, word: &[u8], value: i32) -> u
 }
 
 // Puts the line of cell k; an absent one has none.
+#[tactic(auto, unfolding(crate::specs::Text::cell_line))]
 pub fn put_cell(out: &mut [u8], at: usize, k: usize, cell: Cell) -> usize
     requires { RoomForText out.old at (cell_line k cell) }
     ensures { AddedText out.old out.new at result (cell_line k cell) }
@@ -419,6 +418,7 @@ fn place_in(outcome: Outcome) -> usize
 }
 
 // Puts the first line.
+#[tactic(auto, unfolding(crate::specs::Text::answer_line))]
 pub fn put_answer(out: &mut [u8], at: usize, answer: Answer) -> usize
     requires { RoomForText out.old at (answer_line answer) }
     ensures { AddedText out.old out.new at result (answer_line answer) }

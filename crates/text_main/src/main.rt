@@ -6,6 +6,7 @@ ghost use Rattle.std.specs.Prelude.{◌≡◌, ◌*◌, ◌≤◌, length};
 ghost use Rattle.record.specs.Widths.{token_width, cell_width};
 
 use record::cell::Cell;
+use record::codec::Encode;
 use record::tag::{Path, Tag};
 use record::token::{Content, Token};
 use record::{cell, token};
@@ -50,6 +51,7 @@ const GREATEST: Path = Path {
     high: 18446744073709551615,
 };
 
+// The port is a number: 255, which no instruction has, is printed too.
 fn token_of(path: Path, iteration: u8, instruction: u16, port: u8, content: Content) -> Token {
     let tag = Tag {
         path,
@@ -63,27 +65,19 @@ fn token_of(path: Path, iteration: u8, instruction: u16, port: u8, content: Cont
 fn put_example(listing: &mut [u8])
     requires { length listing.old ≡ 3 * token_width }
 {
-    token::put_token(listing, 0, token_of(Path::ROOT, 0, 0, 0, Content::Spent(7)));
-    token::put_token(
-        listing,
-        1,
-        token_of(Path::ROOT, 0, 0, 1, Content::Spent(-9)),
-    );
-    token::put_token(listing, 2, token_of(Path::ROOT, 0, 1, 0, Content::Live(-2)));
+    token_of(Path::ROOT, 0, 0, 0, Content::Spent(7)).write(listing, 0);
+    token_of(Path::ROOT, 0, 0, 1, Content::Spent(-9)).write(listing, 1);
+    token_of(Path::ROOT, 0, 1, 0, Content::Live(-2)).write(listing, 2);
 }
 
 // Fields at their least, a deferred token, and the greatest path.
 fn put_least(listing: &mut [u8])
     requires { length listing.old ≡ 5 * token_width }
 {
-    token::put_token(listing, 0, token_of(Path::ROOT, 0, 0, 0, Content::Live(0)));
+    token_of(Path::ROOT, 0, 0, 0, Content::Live(0)).write(listing, 0);
     let entered = Path { low: 770, high: 0 };
-    token::put_token(
-        listing,
-        1,
-        token_of(entered, 2, 1, 1, Content::Deferred(1023)),
-    );
-    token::put_token(listing, 2, token_of(GREATEST, 0, 9, 0, Content::Live(-1)));
+    token_of(entered, 2, 1, 1, Content::Deferred(1023)).write(listing, 1);
+    token_of(GREATEST, 0, 9, 0, Content::Live(-1)).write(listing, 2);
 }
 
 // Every field at its greatest, and the ends of a value.
@@ -92,19 +86,19 @@ fn put_greatest(listing: &mut [u8])
 {
     let least = Content::Spent(-2147483648);
     let greatest = Content::Live(2147483647);
-    token::put_token(listing, 3, token_of(GREATEST, 255, 65535, 255, least));
-    token::put_token(listing, 4, token_of(GREATEST, 255, 65535, 255, greatest));
+    token_of(GREATEST, 255, 65535, 255, least).write(listing, 3);
+    token_of(GREATEST, 255, 65535, 255, greatest).write(listing, 4);
 }
 
 // The first cell stays absent, and so does one between others.
 fn put_cells(cells: &mut [u8])
     requires { length cells.old ≡ 12 * cell_width }
 {
-    cell::put_cell(cells, 1, Cell::Waiting);
-    cell::put_cell(cells, 2, Cell::Present(0));
-    cell::put_cell(cells, 9, Cell::Present(-2147483648));
-    cell::put_cell(cells, 10, Cell::Present(2147483647));
-    cell::put_cell(cells, 11, Cell::Absent);
+    Cell::Waiting.write(cells, 1);
+    Cell::Present(0).write(cells, 2);
+    Cell::Present(-2147483648).write(cells, 9);
+    Cell::Present(2147483647).write(cells, 10);
+    Cell::Absent.write(cells, 11);
 }
 
 fn show_example(rt: &impl Print, bytes: usize) -> io::Result<()>

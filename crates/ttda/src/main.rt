@@ -45,10 +45,7 @@ fn read_file(rt: &HostRuntime, path: &str, buf: &mut [u8]) -> Option<usize>
 
 // The path of those bytes. The library takes text alone.
 fn path_of(bytes: &[u8]) -> io::Result<&str> {
-    match str::from_utf8(bytes) {
-        Ok(path) => Ok(path),
-        Err(_) => Err(io::Error::from(io::ErrorKind::InvalidFilename)),
-    }
+    str::from_utf8(bytes).map_err(|_| io::Error::from(io::ErrorKind::InvalidFilename))
 }
 
 // Reads a file of the folder whose name is the first n bytes of path, of the current one where n is 0.

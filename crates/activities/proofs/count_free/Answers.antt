@@ -11,7 +11,7 @@ use Rattle.activities.proofs.count_free.Goals as goal
 pub follow-requires : goal.follow-requires
 follow-requires c =
     let f = started_on c.args.graph.now c.requires.0.prepared c.requires.0.running c.args.bound c.requires.1 c.requires.2 in
-    (f.arities, f.grown, f.room.0, f.room.1, f.bound.0, f.bound.1, f.unspent, rw (c.new-nexts.ensures, c.new-held.ensures) f.carried)
+    (f.arities, f.grown, f.room.0, f.room.1, f.bound.0, f.bound.1, f.unspent, rw (c.new-holds.ensures.0, c.new-holds.ensures.1, c.new-holds.ensures.2) f.carried)
 
 pub new-requires : goal.new-requires
 new-requires c = flags_under c.args.graph.now c.requires.0 [] 0 0 [] c.args.bound _ c.follow.ensures.decided

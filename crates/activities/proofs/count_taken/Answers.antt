@@ -13,7 +13,7 @@ make-requires c = (c.requires.0.graph_passed, omega arith)
 pub take-requires : goal.take-requires
 take-requires c =
     let prepared : Prepared c.args.graph.now c.make.new.out = record { passed = c.requires.0.graph_passed; returns_right = c.make.ensures.returns; arities_right = c.make.ensures.arities } in
-    (prepared, c.requires.0.few, c.requires.0.cell_records.0, c.requires.0.cell_records.1, refl, c.new-flags.ensures)
+    (prepared, c.requires.0.few, c.requires.0.cell_records.0, c.requires.0.cell_records.1, c.new-store.ensures.0, c.new-store.ensures.1)
 
 pub returns-then-not-take : goal.returns-then-not-take
 returns-then-not-take c =

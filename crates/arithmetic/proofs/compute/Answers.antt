@@ -34,5 +34,3 @@ returns-in-Lt c = arm c.before.before c.in-Lt.is c.lt.ensures
 
 pub returns-in-Le : goal.returns-in-Le
 returns-in-Le c = arm c.before.before c.in-Le.is c.le.ensures
-
--- GONE None: (λ c. arm c.before.before.before c.before.enum-told8.given.1 c.eq.ensures)

@@ -27,5 +27,3 @@ returns c =
     let fits = remainder_fits c.args.a c.args.b c.ranges.a in
     rw (to_z-of_z c.ranges.a, to_z-of_z c.ranges.b, to_z-of_z fits)
     (sym (by_nonzero c.args.b _ (λ e. c.if-b-eq0.false (ap (of_z w32) e)) ∙ fits_ranged _ fits))
-
--- GONE nonzero-rem-t4: rem_t4

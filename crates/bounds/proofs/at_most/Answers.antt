@@ -53,10 +53,6 @@ total-totals-requires c =
     let a = c.args in
     omega (arith, (passed_length a.graph.now (graph_passed_lem a.graph.now a.inputs.now c.requires)).1, length_graph a.graph.now)
 
-pub overflow_add-result : goal.overflow_add-result
-unfolding needs
-overflow_add-result c = search rules
-
 pub returns : goal.returns
 unfolding needs
 returns c =

@@ -17,7 +17,7 @@ pub loop-i-init : goal.loop-i-init
 loop-i-init c = (omega arith, refl)
 
 pub good-requires : goal.good-requires
-good-requires c = (c.counts-counts.ensures, rw (c.row_at.ensures, length-drop) (omega arith))
+good-requires c = rw (c.row_at.ensures, length-drop) (omega arith)
 
 pub returns-then-not-good : goal.returns-then-not-good
 returns-then-not-good c =

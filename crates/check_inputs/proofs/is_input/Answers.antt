@@ -1,23 +1,10 @@
 -- `check_inputs::is_input` meets its contract. Assumes nothing.
 use mathlib.Core.Path.{sym, ap, ◌∙◌}
 use borrow.Author.Tests.{eq-eqb, ne_eqb}
-use borrow.Author.Rules.{rules}
 use Rattle.record.specs.declared.tag.Tag.{Tag}
 use Rattle.record.specs.Paths.{is_root}
 use Rattle.record.specs.TokensAndTags.{is_input}
 use Rattle.check_inputs.proofs.is_input.Goals as goal
-
-pub decode-tag-requires : goal.decode-tag-requires
-unfolding is_input
-decode-tag-requires c = search rules
-
-pub is_root-requires : goal.is_root-requires
-unfolding is_input
-is_root-requires c = search rules
-
-pub u32_at-requires : goal.u32_at-requires
-unfolding is_input
-u32_at-requires c = search rules
 
 pub returns-then-tag-eq0 : goal.returns-then-tag-eq0
 unfolding is_input

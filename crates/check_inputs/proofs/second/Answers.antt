@@ -1,10 +1,9 @@
 -- `check_inputs::second` meets its contract. The invariant: the first i inputs passed, so that the rest decides, and the table has an entry for each of these i. Assumes nothing.
 use Prim.Native.Nat.{◌<◌, ◌/◌}
 use native.Mathlib.Omega.{arith}
-use mathlib.Core.Bool.{Bool, not}
+use mathlib.Core.Bool.{Bool, true, not}
 use mathlib.Core.Path.{refl, sym, ap, ◌∙◌}
 use lib.ListN.{length, take, length-set}
-use borrow.Author.Rules.{rules}
 use Rattle.rules.specs.Check.{demand, second_input}
 use Rattle.rules.specs.declared.answer.Refusal.TheVariants.{SecondToken}
 use Rattle.check_inputs.specs.Inputs.{input_tokens}
@@ -17,28 +16,16 @@ pub loop-i-init : goal.loop-i-init
 unfolding second_input
 loop-i-init c = (omega arith, refl, none_seen, refl)
 
-pub token_at-t-requires : goal.token_at-t-requires
-unfolding second_input
-token_at-t-requires c = omega arith
-
-pub entry-at-requires : goal.entry-at-requires
-unfolding second_input
-entry-at-requires c = search rules
-
-pub bounds-seen-at : goal.bounds-seen-at
-unfolding second_input
-bounds-seen-at c = omega arith
-
 pub is_second-requires : goal.is_second-requires
 unfolding second_input
 is_second-requires c =
-    let t = c.token_at-t.result in
+    let t = c.read-t.result in
     (omega arith, λ z. c.loop-i.invariant.2 t.tag t.port (rw c.entry-at.ensures.0 at z))
 
 pub returns-then-is_second : goal.returns-then-is_second
 unfolding second_input
 returns-then-is_second c =
-    let at-token-at = c.token_at-t in
+    let at-token-at = c.read-t in
     let l = c.loop-i in
     let s = c.args.inputs.now in
     let x = at-token-at.result in
@@ -48,18 +35,10 @@ returns-then-is_second c =
     let t = l.invariant.1 ∙ turn (λ k t. demand (not (second_input (take k (input_tokens s)) t)) SecondToken k) (input_tokens s) l.i x k e (ap (λ (b : Bool). demand (not b) SecondToken l.i) (sym c.is_second.ensures ∙ c.if-is_second.true)) in
     rw c.at.ensures (sym t)
 
-pub bounds-seen-at-in-loop-i : goal.bounds-seen-at-in-loop-i
-unfolding second_input
-bounds-seen-at-in-loop-i c = omega arith
-
-pub loop-i-smaller : goal.loop-i-smaller
-unfolding second_input
-loop-i-smaller c = omega arith
-
 pub loop-i-preserved : goal.loop-i-preserved
 unfolding second_input
 loop-i-preserved c =
-    let at-token-at = c.token_at-t in
+    let at-token-at = c.read-t in
     let l = c.loop-i in
     let s = c.args.inputs.now in
     let x = at-token-at.result in
@@ -71,7 +50,7 @@ loop-i-preserved c =
       omega arith,
       t,
       rw (take_next (input_tokens s) l.i x k e, n) (see (take l.i (input_tokens s)) l.seen x l.invariant.2 l.invariant.3),
-      length-set l.seen _ 1 ∙ l.invariant.3,
+      length-set l.seen _ true ∙ l.invariant.3,
     )
 
 pub returns : goal.returns

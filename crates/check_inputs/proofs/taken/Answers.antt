@@ -14,14 +14,14 @@ pub returns-then-stands_at : goal.returns-then-stands_at
 returns-then-stands_at c =
     let l = c.loop-j in
     let f = stands_at c.args.tag c.args.port in
-    let t = any_token f c.args.inputs.now l.j (omega (arith, c.requires)) l.invariant.1 c.token_at.ensures c.stands_at.ensures in
+    let t = any_token f c.args.inputs.now l.j (omega (arith, c.requires)) l.invariant.1 c.read.ensures c.stands_at.ensures in
     sym (any_more f (input_tokens c.args.inputs.now) (l.j + 1) c.args.n (omega arith) (t ∙ c.if-stands_at.true))
 
 pub loop-j-preserved : goal.loop-j-preserved
 loop-j-preserved c =
     let l = c.loop-j in
     let f = stands_at c.args.tag c.args.port in
-    let t = any_token f c.args.inputs.now l.j (omega (arith, c.requires)) l.invariant.1 c.token_at.ensures c.stands_at.ensures in
+    let t = any_token f c.args.inputs.now l.j (omega (arith, c.requires)) l.invariant.1 c.read.ensures c.stands_at.ensures in
     (omega arith, t ∙ c.if-stands_at.false)
 
 pub returns : goal.returns

@@ -10,11 +10,11 @@ use Rattle.checks.proofs.InOrder.{ended_before, last_decides}
 use Rattle.checks.proofs.check_with.Goals as goal
 
 pub returns-in_err-check_lent : goal.returns-in_err-check_lent
-returns-in_err-check_lent c =
+returns-in_err-check_lent g c =
     let a = c.args in
-    handed_on c.from_residual.ensures ∙ ended_before a.graph.now a.arrays.now (a.cells / cell_width) a.lent (check_inputs (graph_of a.graph.now) (capacity_of a.ledger) a.inputs.now) _ c.check_lent.ensures c.in_err-check_lent.was
+    handed_on c.from_residual.ensures ∙ ended_before a.graph.now a.arrays.now (a.cells / cell_width) (g.L.Lent.checked a.lent.now) (check_inputs (graph_of a.graph.now) (capacity_of a.ledger) a.inputs.now) _ c.check_lent.ensures c.in_err-check_lent.was
 
 pub returns : goal.returns
-returns c =
+returns g c =
     let a = c.args in
-    c.check.ensures ∙ last_decides a.graph.now a.arrays.now (a.cells / cell_width) a.lent (check_inputs (graph_of a.graph.now) (capacity_of a.ledger) a.inputs.now) _ c.check_lent.ensures c.in_ok-check_lent.was
+    c.check.ensures ∙ last_decides a.graph.now a.arrays.now (a.cells / cell_width) (g.L.Lent.checked a.lent.now) (check_inputs (graph_of a.graph.now) (capacity_of a.ledger) a.inputs.now) _ c.check_lent.ensures c.in_ok-check_lent.was

@@ -9,27 +9,11 @@ use Rattle.record.specs.TokensAndTags.{most_tokens}
 use Rattle.convert.specs.Convert.{convert_accepted}
 use Rattle.convert.proofs.accepts.Goals as goal
 
-pub overflow_add-width : goal.overflow_add-width
-unfolding convert_accepted
-overflow_add-width c = search rules
-
-pub whole-requires : goal.whole-requires
-unfolding convert_accepted
-whole-requires c = search rules
-
-pub nonzero_div-result : goal.nonzero_div-result
-unfolding convert_accepted
-nonzero_div-result c = search rules
-
-pub overflow_add-result : goal.overflow_add-result
-unfolding convert_accepted
-overflow_add-result c = search rules
-
 pub overflow_mul-result : goal.overflow_mul-result
 unfolding convert_accepted
 overflow_mul-result c =
-    let few = (whole_bytes (8 + c.args.rest) most_tokens c.args.old (sym c.whole.ensures ∙ c.if-whole.true)).1 in
-    record { fits = omega (arith, mul-le-mul {m₁ = 16 + c.args.rest} {n₂ = most_tokens} {m₂ = 28} few (omega arith)) }
+    let few = (whole_bytes (8 + c.args.layout.rest) most_tokens c.args.old (sym c.whole.ensures ∙ c.if-whole.true)).1 in
+    record { fits = omega (arith, mul-le-mul {m₁ = 16 + c.args.layout.rest} {n₂ = most_tokens} {m₂ = 28} few (omega arith)) }
 
 pub returns-then-whole : goal.returns-then-whole
 unfolding convert_accepted

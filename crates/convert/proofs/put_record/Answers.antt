@@ -12,4 +12,4 @@ slice_bounds-write_at-end-3 c = rw (c.row_at-row.ensures, length-drop) (omega ar
 
 pub returns : goal.returns
 returns c =
-    parts_put c.args.rest c.args.old.now _ c.args.out.now _ _ _ c.args.i c.requires.rest_in_bounds c.requires.rest_in_bounds_2 c.row_at-row.ensures c.write_at.ensures c.write_at-2.ensures c.write_at-3.ensures
+    parts_put c.args.layout.rest c.args.old.now _ c.args.out.now _ _ _ c.args.i c.requires.old_in_bounds c.requires.out_in_bounds c.row_at-row.ensures c.write_at.ensures c.write_at-2.ensures c.write_at-3.ensures

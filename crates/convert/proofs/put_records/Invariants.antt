@@ -9,4 +9,4 @@ use Rattle.convert.proofs.put_records.Given as goal
 
 abbrev pub invariant-loop-i : goal.invariant-loop-i
 invariant-loop-i l =
-    (l.i ≤ length l.old / (8 + l.rest)) × (length l.out ≡ length l.old / (8 + l.rest) * (16 + l.rest)) × (take (l.i * (16 + l.rest)) l.out ≡ together (rows (8 + l.rest) (widened l.rest) l.i l.old))
+    (l.i ≤ length l.old / (8 + l.layout.rest)) × (length l.out ≡ length l.old / (8 + l.layout.rest) * (16 + l.layout.rest)) × (take (l.i * (16 + l.layout.rest)) l.out ≡ together (rows (8 + l.layout.rest) (widened l.layout.rest) l.i l.old))

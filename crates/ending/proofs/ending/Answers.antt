@@ -6,7 +6,7 @@ use lib.ListN.{length, drop_of_length-le}
 use Rattle.record.specs.TokensAndTags.{tokens, decode_token}
 use Rattle.record.specs.Widths.{token_width}
 use Rattle.buffer.proofs.Tables.{length_rows}
-use Rattle.ending.proofs.Laws.{all_by, ends_completed, ends_hung, pass_on, stop_here, four_before, pass_four}
+use Rattle.ending.proofs.Laws.{all_by, ends_completed, ends_hung, pass_on, stop_here, pass_four}
 use Rattle.ending.proofs.ending.Goals as goal
 
 pub loop-i-init : goal.loop-i-init
@@ -14,12 +14,6 @@ loop-i-init c =
     let ts = tokens c.args.used c.args.ledger.now in
     let past : length ts ≤ c.args.used = omega (arith, length_rows token_width decode_token c.args.used c.args.ledger.now) in
     (omega arith, ap (all_by c.args.tables.now) (drop_of_length-le ts past))
-
-pub overflow_sub-i : goal.overflow_sub-i
-overflow_sub-i c = omega (arith, four_before c.args.ledger.now c.loop-i.i (sym c.four_spent.ensures ∙ c.if-four_spent.true))
-
-pub loop-i-smaller-then-four_spent : goal.loop-i-smaller-then-four_spent
-loop-i-smaller-then-four_spent c = omega (arith, four_before c.args.ledger.now c.loop-i.i (sym c.four_spent.ensures ∙ c.if-four_spent.true))
 
 pub loop-i-preserved-then-four_spent : goal.loop-i-preserved-then-four_spent
 loop-i-preserved-then-four_spent c =

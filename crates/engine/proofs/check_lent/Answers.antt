@@ -1,6 +1,5 @@
 -- `engine::check_lent` meets its contract. Assumes nothing.
-use mathlib.Core.Path.{◌∙◌}
 use Rattle.engine.proofs.check_lent.Goals as goal
 
 pub returns : goal.returns
-returns c = c.check_lent.ensures ∙ rw (c.check-of_stores.ensures, c.check.ensures)
+returns c = c.check_lent.ensures

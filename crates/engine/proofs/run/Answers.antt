@@ -2,57 +2,28 @@
 use mathlib.Core.Path.{refl, sym, ap, ◌∙◌}
 use lib.ListN.{length}
 use native.Mathlib.Omega.{arith}
-use borrow.Author.Rules.{rules}
 use Rattle.rules.specs.Answer.{values_of}
 use Rattle.rules.specs.Run.{unless_failed, answer, ledger_after, cells_after}
-use Rattle.rules.specs.Bounded.{bounded}
+use Rattle.rules.specs.Bounded.{bounded, check_bounded}
 use Rattle.engine.proofs.Accepting.{accepted_bounded}
 use Rattle.engine.proofs.run.Goals as goal
 
-pub check_bounded-checked-requires : goal.check_bounded-checked-requires
-unfolding bounded unless_failed answer ledger_after cells_after
-check_bounded-checked-requires c = search rules
-
-pub enum_known-checked : goal.enum_known-checked
-unfolding bounded unless_failed answer ledger_after cells_after
-enum_known-checked c = search rules
-
-pub refused-requires : goal.refused-requires
-unfolding bounded unless_failed answer ledger_after cells_after
-refused-requires c = search rules
-
-pub enum_told-1 : goal.enum_told-1
-unfolding bounded unless_failed answer ledger_after cells_after
-enum_told-1 c = search rules
-
-pub slice_bounds-accepted-end : goal.slice_bounds-accepted-end
-unfolding bounded unless_failed answer ledger_after cells_after
-slice_bounds-accepted-end c = search rules
-
 pub accepted-requires : goal.accepted-requires
-unfolding bounded unless_failed answer ledger_after cells_after
+unfolding bounded check_bounded unless_failed answer ledger_after cells_after
 accepted-requires c =
     let a = c.args in
-    (accepted_bounded a.graph.now a.arrays.now a.inputs.now a.picks.now a.bound (length a.ledger.now) (length a.cells.now) (sym c.check_bounded-checked.ensures ∙ c.in-Ok.is), omega arith)
+    (accepted_bounded a.graph.now a.arrays.now a.inputs.now a.picks.now a.bound (length a.ledger.now) (length a.cells.now) (sym c.check_with-checked.ensures ∙ c.in-Ok.is), omega arith)
 
 pub returns-in-Err : goal.returns-in-Err
-unfolding bounded unless_failed answer ledger_after cells_after
+unfolding bounded check_bounded unless_failed answer ledger_after cells_after
 returns-in-Err c =
-    let e = sym c.check_bounded-checked.ensures ∙ c.in-Err.is in
+    let e = sym c.check_with-checked.ensures ∙ c.in-Err.is in
     let a = c.refused.ensures in
     rw e (record { answered = a; numbers = ap values_of a; ledger_left = refl; cells_left = refl })
 
-pub shape_of-ledger : goal.shape_of-ledger
-unfolding bounded unless_failed answer ledger_after cells_after
-shape_of-ledger c = search rules
-
-pub shape_of-cells : goal.shape_of-cells
-unfolding bounded unless_failed answer ledger_after cells_after
-shape_of-cells c = search rules
-
 pub returns-in-Ok : goal.returns-in-Ok
-unfolding bounded unless_failed answer ledger_after cells_after
+unfolding bounded check_bounded unless_failed answer ledger_after cells_after
 returns-in-Ok c =
-    let e = sym c.check_bounded-checked.ensures ∙ c.in-Ok.is in
+    let e = sym c.check_with-checked.ensures ∙ c.in-Ok.is in
     let l = c.accepted.ensures.ended_at in
     rw e (record { answered = l.answered; numbers = ap values_of l.answered; ledger_left = l.ledger_left; cells_left = l.cells_left })

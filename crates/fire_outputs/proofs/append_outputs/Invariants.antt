@@ -5,4 +5,4 @@ use Rattle.fire_outputs.proofs.append_outputs.Given as goal
 
 abbrev pub invariant-loop-k : goal.invariant-loop-k
 invariant-loop-k l =
-    Appending l.tables l.links l.flags l.ledger l.used l.k (tokens l.used l.initial.ledger) l.outputs l.content l.initial.slot l.second l.key l.slot l.initial.ledger
+    Appending l.tables l.store.links l.store.flags l.ledger l.used l.k (tokens l.used l.initial.ledger) l.outputs l.content l.initial.slot l.second l.key l.slot l.initial.ledger

@@ -25,10 +25,10 @@ change_cells-content-requires c = let p = c.requires in (p.0.store, p.4)
 
 pub wake-requires : goal.wake-requires
 wake-requires c =
-    let spent : let a = c.args in let after = c.spend_operands.new in Kept a.tables.now a.links.now after.flags after.ledger a.used (spent_at a.operands.place a.operands.other (tokens a.used a.ledger.now)) a.ledger.now = let a = c.args in
+    let spent : let a = c.args in let after = c.spend_operands.new in Kept a.tables.now a.store.now.links after.flags after.ledger a.used (spent_at a.operands.place a.operands.other (tokens a.used a.ledger.now)) a.ledger.now = let a = c.args in
     let l = c.requires.0 in
     let p = c.spend_operands.ensures in
-    let r = p.by_index a.tables.now a.links.now a.used l.matching l.activity in
+    let r = p.by_index a.tables.now a.store.now.links a.used l.matching l.activity in
     kept_spent l.matching l.activity p.ledger_after r.0 r.1 in
     let l = c.requires.0 in
     let k = spent in
@@ -36,10 +36,10 @@ wake-requires c =
 
 pub append_outputs-requires : goal.append_outputs-requires
 append_outputs-requires c =
-    let spent : let a = c.args in let after = c.spend_operands.new in Kept a.tables.now a.links.now after.flags after.ledger a.used (spent_at a.operands.place a.operands.other (tokens a.used a.ledger.now)) a.ledger.now = let a = c.args in
+    let spent : let a = c.args in let after = c.spend_operands.new in Kept a.tables.now a.store.now.links after.flags after.ledger a.used (spent_at a.operands.place a.operands.other (tokens a.used a.ledger.now)) a.ledger.now = let a = c.args in
     let l = c.requires.0 in
     let p = c.spend_operands.ensures in
-    let r = p.by_index a.tables.now a.links.now a.used l.matching l.activity in
+    let r = p.by_index a.tables.now a.store.now.links a.used l.matching l.activity in
     kept_spent l.matching l.activity p.ledger_after r.0 r.1 in
     let a = c.args in
     let p = c.requires in
@@ -50,10 +50,10 @@ append_outputs-requires c =
 
 pub returns : goal.returns
 returns c =
-    let spent : let a = c.args in let after = c.spend_operands.new in Kept a.tables.now a.links.now after.flags after.ledger a.used (spent_at a.operands.place a.operands.other (tokens a.used a.ledger.now)) a.ledger.now = let a = c.args in
+    let spent : let a = c.args in let after = c.spend_operands.new in Kept a.tables.now a.store.now.links after.flags after.ledger a.used (spent_at a.operands.place a.operands.other (tokens a.used a.ledger.now)) a.ledger.now = let a = c.args in
     let l = c.requires.0 in
     let p = c.spend_operands.ensures in
-    let r = p.by_index a.tables.now a.links.now a.used l.matching l.activity in
+    let r = p.by_index a.tables.now a.store.now.links a.used l.matching l.activity in
     kept_spent l.matching l.activity p.ledger_after r.0 r.1 in
     let at-change-cells = c.change_cells-content in
     let a = c.args in

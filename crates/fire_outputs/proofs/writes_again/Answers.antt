@@ -8,13 +8,13 @@ use Rattle.fire_outputs.proofs.writes_again.Goals as goal
 pub returns-in_default : goal.returns-in_default
 returns-in_default c = sym ((no_write c.args.action (opened c.in_default.in_default-own.keys2)).once _)
 
-pub cell_at-found-requires : goal.cell_at-found-requires
-cell_at-found-requires c = rw c.in-Write.is at c.requires
+pub read-requires : goal.read-requires
+read-requires c = rw c.in-Write.is at c.requires
 
 pub returns-in-Present : goal.returns-in-Present
 returns-in-Present c =
-    rw c.in-Write.is (sym (ap is_present (cell_held_lem c.args.cells.now c.in-Write.number (rw c.in-Write.is at c.requires) ∙ sym c.cell_at-found.ensures ∙ c.in-Present.is)))
+    rw c.in-Write.is (sym (ap is_present (cell_held_lem c.args.cells.now c.in-Write.number (rw c.in-Write.is at c.requires) ∙ sym c.read.ensures ∙ c.in-Present.is)))
 
-pub returns-in_default-found : goal.returns-in_default-found
-returns-in_default-found c =
-    rw c.in-Write.is (sym (ap is_present (cell_held_lem c.args.cells.now c.in-Write.number (rw c.in-Write.is at c.requires) ∙ sym c.cell_at-found.ensures) ∙ (no_value c.cell_at-found.result (opened c.in_default-found.in_default-found-own.keys2)).shut))
+pub returns-in_default-matches : goal.returns-in_default-matches
+returns-in_default-matches c =
+    rw c.in-Write.is (sym (ap is_present (cell_held_lem c.args.cells.now c.in-Write.number (rw c.in-Write.is at c.requires) ∙ sym c.read.ensures) ∙ (no_value c.read.result (opened c.in_default-matches.in_default-matches-own.keys2)).shut))

@@ -11,9 +11,6 @@ use Rattle.graph_tables.proofs.arities.Goals as goal
 pub loop-i-init : goal.loop-i-init
 loop-i-init c = (omega arith, c.requires.1, (λ τ h. absurd (omega arith)), λ k h. refl)
 
-pub entry_at-requires : goal.entry_at-requires
-entry_at-requires c = c.counts-counts.ensures
-
 pub loop-i-preserved : goal.loop-i-preserved
 loop-i-preserved c =
     let l = c.loop-i in

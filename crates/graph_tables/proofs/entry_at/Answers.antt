@@ -1,44 +1,37 @@
 -- `graph_tables::entry_at` meets its contract. Assumes nothing.
 use native.Mathlib.Omega.{arith}
-use mathlib.Core.Path.{sym}
-use borrow.Author.Rules.{rules}
+use Prim.Native.Nat.{◌*◌}
+use mathlib.Core.Path.{◌≡◌, sym, ◌∙◌}
+use lib.ListN.{get_or}
+use Rattle.record.specs.Widths.{graph_width}
 use Rattle.record.specs.GraphRecords.{row_of}
 use Rattle.store_enabled.specs.Enabled.{waited_for}
 use Rattle.check_fields.proofs.Graphs.{arity_past}
+use Rattle.check_fields.proofs.Operations.{out_code, leave_code, not_out, not_leave}
 use Rattle.graph_tables.proofs.Entries.{count_entry, entry_in}
 use Rattle.graph_tables.proofs.entry_at.Goals as goal
 
-pub overflow_mul-code : goal.overflow_mul-code
+pub returns-in-Out : goal.returns-in-Out
 unfolding waited_for row_of
-overflow_mul-code c = search rules
+returns-in-Out c =
+    let a = c.args in
+    let code : get_or a.graph.now (a.i * graph_width) 0 ≡ 3 = out_code _ (sym c.from.ensures ∙ c.in-Out.is) in
+    entry_in a.graph.now a.i 0 (omega arith) (λ τ. rw code)
 
-pub bounds-graph-i : goal.bounds-graph-i
+pub returns-in-Leave : goal.returns-in-Leave
 unfolding waited_for row_of
-bounds-graph-i c = search rules
-
-pub count_of-requires : goal.count_of-requires
-unfolding waited_for row_of
-count_of-requires c = search rules
-
-pub overflow_cast-result : goal.overflow_cast-result
-unfolding waited_for row_of
-overflow_cast-result c = search rules
-
-pub returns-in-3 : goal.returns-in-3
-unfolding waited_for row_of
-returns-in-3 c = let a = c.args in entry_in a.graph.now a.i 0 (omega arith) (λ τ. rw c.in-3.is)
-
-pub returns-in-9 : goal.returns-in-9
-unfolding waited_for row_of
-returns-in-9 c = let a = c.args in entry_in a.graph.now a.i 3 (omega arith) (λ τ. rw c.in-9.is)
+returns-in-Leave c =
+    let a = c.args in
+    let code : get_or a.graph.now (a.i * graph_width) 0 ≡ 9 = leave_code _ (sym c.from.ensures ∙ c.in-Leave.is) in
+    entry_in a.graph.now a.i 3 (omega arith) (λ τ. rw code)
 
 pub returns-in_default : goal.returns-in_default
-unfolding waited_for row_of
 returns-in_default c =
     let a = c.args in
-    let m = c.in_default.in_default-own in
-    entry_in a.graph.now a.i c.count_of.result (omega arith) (λ τ. rw c.count_of.ensures (count_entry _ τ m.rest.0.1 m.rest.1))
+    let m = c.in_default in
+    entry_in a.graph.now a.i c.of.result (omega arith)
+    (λ τ. rw c.of.ensures (count_entry _ τ (not_out _ (λ e. m.not-Out (c.from.ensures ∙ e))) (not_leave _ (λ e. m.not-Leave (c.from.ensures ∙ e)))))
 
 pub returns-else-i-graph : goal.returns-else-i-graph
-unfolding waited_for row_of
+unfolding waited_for
 returns-else-i-graph c = λ τ e. sym (arity_past c.args.graph.now τ (omega arith))

@@ -16,8 +16,8 @@ bounds-out-256 c = omega (arith, c.requires.1)
 pub loop-i-init : goal.loop-i-init
 loop-i-init c = none_named c.args.arrays.now c.args.out.now c.requires.0 c.requires.1
 
-pub array_at-a-requires : goal.array_at-a-requires
-array_at-a-requires c = omega (arith, c.loop-i-test.true)
+pub read-a-requires : goal.read-a-requires
+read-a-requires c = omega (arith, c.loop-i-test.true)
 
 pub overflow_mul-out : goal.overflow_mul-out
 overflow_mul-out c = let l = c.loop-i in omega (arith, l.invariant.few, l.invariant.most)
@@ -43,7 +43,7 @@ offset_bounds-out-i-in-loop-i c = let l = c.loop-i in omega (arith, l.invariant.
 pub bounds-out-i-in-loop-i : goal.bounds-out-i-in-loop-i
 bounds-out-i-in-loop-i c =
     let l = c.loop-i in
-    omega (arith, c.loop-i-test.true, l.invariant.most, l.invariant.size, length-set l.out (l.i * 2 + 257) c.array_at-a.result.first)
+    omega (arith, c.loop-i-test.true, l.invariant.most, l.invariant.size, length-set l.out (l.i * 2 + 257) c.read-a.result.first)
 
 pub loop-i-smaller : goal.loop-i-smaller
 loop-i-smaller c = omega (arith, c.loop-i-test.true)
@@ -51,7 +51,7 @@ loop-i-smaller c = omega (arith, c.loop-i-test.true)
 pub loop-i-preserved : goal.loop-i-preserved
 loop-i-preserved c =
     let l = c.loop-i in
-    one_more c.args.arrays.now _ l.out l.i l.invariant c.loop-i-test.true c.array_at-a.result c.array_at-a.ensures
+    one_more c.args.arrays.now _ l.out l.i l.invariant c.loop-i-test.true c.read-a.result c.read-a.ensures
 
 pub returns : goal.returns
 returns c =

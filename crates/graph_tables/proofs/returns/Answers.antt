@@ -22,9 +22,9 @@ loop-i-preserved c =
     let l = c.loop-i in
     let g = c.args.graph.now in
     let j = l.i - 1 in
-    let r = c.instruction_at.result in
+    let r = c.read.result in
     let h : j < length g / graph_width = omega arith in
-    let e = in_graph g j h r ∙ sym c.instruction_at.ensures in
+    let e = in_graph g j h r ∙ sym c.read.ensures in
     let n : suc j ≡ l.i = omega arith in
     let d : drop j (graph_of g) ≡ r ∷ drop l.i (graph_of g) = drop-cons (graph_of g) j r (omega (arith, length_graph g)) ∙ rw (e, n) in (
       omega arith,

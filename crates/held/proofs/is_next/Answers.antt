@@ -1,5 +1,6 @@
 -- `held::is_next` meets its contract. The code is the first byte of the record. Assumes nothing.
-use mathlib.Core.Path.{sym, ap}
+use mathlib.Core.Path.{sym, ap, ◌∙◌}
+use borrow.Author.Tests.{le-ltb}
 use native.Mathlib.Omega.{arith}
 use lib.Dec.{eqb}
 use Rattle.check_fields.proofs.Graphs.{code_at, code_past}
@@ -13,4 +14,4 @@ returns-then-at-graph c =
 pub returns-else-at-graph : goal.returns-else-at-graph
 returns-else-at-graph c =
     let a = c.args in
-    ap (λ n. eqb n 7) (sym (code_past a.graph.now a.i (omega arith)))
+    le-ltb _ _ c.if-at-graph.false ∙ ap (λ n. eqb n 7) (sym (code_past a.graph.now a.i (omega arith)))

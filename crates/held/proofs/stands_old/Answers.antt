@@ -1,6 +1,5 @@
 -- `held::stands_old` meets its contract. The invariant: where the tag found so far stands, the first one stands; its iteration is a byte. The measure is the number of its path. Assumes nothing.
-use native.Mathlib.Omega.{arith}
-use mathlib.Core.Path.{refl, sym, ap, ◌∙◌}
+use mathlib.Core.Path.{sym, ap, ◌∙◌}
 use mathlib.Core.Bool.{Bool, false}
 use mathlib.Core.Option.{Option}
 use Prim.Native.Nat.{ℕ, ◌+◌}
@@ -14,9 +13,6 @@ use Rattle.held.proofs.stands_old.Goals as goal
 
 abbrev old : (bound m : ℕ) → Option ℕ → Bool
 old bound m o = on_option o false (λ j. leb (j + bound) m)
-
-pub loop-path-init : goal.loop-path-init
-loop-path-init c = (refl, search rules)
 
 pub returns-in_default : goal.returns-in_default
 returns-in_default c =
@@ -34,9 +30,6 @@ loop-path-preserved c =
     let a = c.args in
     let other = sym (equal_paths l.at.path a.path) ∙ not-true _ (sym c.ne.ensures ∙ c.loop-path-test.true) in
     (l.invariant.0 ∙ stands_above a.path l.at other c.in-Some.caller.site _ (sym c.leave.ensures ∙ c.in-Some.is), search rules)
-
-pub overflow_add-result : goal.overflow_add-result
-overflow_add-result c = omega (arith, c.loop-path.invariant.1, c.requires)
 
 pub returns : goal.returns
 returns c =

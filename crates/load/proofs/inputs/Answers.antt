@@ -60,69 +60,69 @@ not_taken i m t tag own none taken =
 pub loop-i-init : goal.loop-i-init
 loop-i-init c =
     let a = c.args in
-    taken_none a.tables.now a.ledger.now a.inputs.now a.links.now a.flags.now c.requires.0
+    taken_none a.tables.now a.ledger.now a.inputs.now a.store.now.links a.store.now.flags c.requires.0
 
-pub token_at-t-requires : goal.token_at-t-requires
-token_at-t-requires c = omega (arith, c.loop-i-test.true)
+pub read-t-requires : goal.read-t-requires
+read-t-requires c = omega (arith, c.loop-i-test.true)
 
-pub put_token-requires : goal.put_token-requires
-put_token-requires c = omega (arith, c.loop-i-test.true, c.requires.1, c.loop-i.invariant.size)
+pub write-requires : goal.write-requires
+write-requires c = omega (arith, c.loop-i-test.true, c.requires.1, c.loop-i.invariant.size)
 
 pub seek-requires : goal.seek-requires
 seek-requires c =
     let a = c.args in
     let q = c.requires in
     let l = c.loop-i in
-    let t = c.token_at-t in
-    let m = c.put_token.new.ledger in
-    let p = c.put_token.ensures in
+    let t = c.read-t in
+    let m = c.write.new.buf in
+    let p = c.write.ensures in
     let left : l.i < length a.inputs.now / token_width = omega (arith, c.loop-i-test.true) in
-    let len : length m ≡ length l.ledger = omega (arith, c.put_token.auto.ledger) in
+    let len : length m ≡ length l.ledger = omega (arith, c.write.auto.buf) in
     let fitting = proper a.tables.now a.inputs.now l.i t.result t.ensures left q.3 in
-    (matching_known (matching a.tables.now a.ledger.now a.inputs.now l.links l.flags l.ledger l.i l.invariant left q.1 t.result t.ensures m p.0 p.1 len), fitting.low)
+    (matching_known (matching a.tables.now a.ledger.now a.inputs.now l.store.links l.store.flags l.ledger l.i l.invariant left q.1 t.result t.ensures m p.0 p.1 len), fitting.low)
 
 pub shape_of-ledger-in_default : goal.shape_of-ledger-in_default
 shape_of-ledger-in_default c =
     let a = c.args in
     let q = c.requires in
     let l = c.loop-i in
-    let t = c.token_at-t in
-    let m = c.put_token.new.ledger in
-    let p = c.put_token.ensures in
+    let t = c.read-t in
+    let m = c.write.new.buf in
+    let p = c.write.ensures in
     let left : l.i < length a.inputs.now / token_width = omega (arith, c.loop-i-test.true) in
-    let len : length m ≡ length l.ledger = omega (arith, c.put_token.auto.ledger) in
+    let len : length m ≡ length l.ledger = omega (arith, c.write.auto.buf) in
     let fitting = proper a.tables.now a.inputs.now l.i t.result t.ensures left q.3 in
     let own : c.root-tag.result ≡ t.result.tag = c.root-tag.ensures ∙ sym fitting.root in
-    absurd (not_taken l.i m t.result c.root-tag.result own (free a.tables.now a.ledger.now a.inputs.now l.links l.flags l.ledger l.i l.invariant left q.1 t.result t.ensures m p.0 p.1 len q.4) (rw c.in_default.is at c.seek.ensures))
+    absurd (not_taken l.i m t.result c.root-tag.result own (free a.tables.now a.ledger.now a.inputs.now l.store.links l.store.flags l.ledger l.i l.invariant left q.1 t.result t.ensures m p.0 p.1 len q.4) (rw c.in_default.is at c.seek.ensures))
 
 pub returns-in_default : goal.returns-in_default
 returns-in_default c =
     let a = c.args in
     let q = c.requires in
     let l = c.loop-i in
-    let t = c.token_at-t in
-    let m = c.put_token.new.ledger in
-    let p = c.put_token.ensures in
+    let t = c.read-t in
+    let m = c.write.new.buf in
+    let p = c.write.ensures in
     let left : l.i < length a.inputs.now / token_width = omega (arith, c.loop-i-test.true) in
-    let len : length m ≡ length l.ledger = omega (arith, c.put_token.auto.ledger) in
+    let len : length m ≡ length l.ledger = omega (arith, c.write.auto.buf) in
     let fitting = proper a.tables.now a.inputs.now l.i t.result t.ensures left q.3 in
     let own : c.root-tag.result ≡ t.result.tag = c.root-tag.ensures ∙ sym fitting.root in
-    absurd (not_taken l.i m t.result c.root-tag.result own (free a.tables.now a.ledger.now a.inputs.now l.links l.flags l.ledger l.i l.invariant left q.1 t.result t.ensures m p.0 p.1 len q.4) (rw c.in_default.is at c.seek.ensures))
+    absurd (not_taken l.i m t.result c.root-tag.result own (free a.tables.now a.ledger.now a.inputs.now l.store.links l.store.flags l.ledger l.i l.invariant left q.1 t.result t.ensures m p.0 p.1 len q.4) (rw c.in_default.is at c.seek.ensures))
 
 pub enter-requires : goal.enter-requires
 enter-requires c =
     let a = c.args in
     let q = c.requires in
     let l = c.loop-i in
-    let t = c.token_at-t in
-    let m = c.put_token.new.ledger in
-    let p = c.put_token.ensures in
+    let t = c.read-t in
+    let m = c.write.new.buf in
+    let p = c.write.ensures in
     let left : l.i < length a.inputs.now / token_width = omega (arith, c.loop-i-test.true) in
-    let len : length m ≡ length l.ledger = omega (arith, c.put_token.auto.ledger) in
+    let len : length m ≡ length l.ledger = omega (arith, c.write.auto.buf) in
     let fitting = proper a.tables.now a.inputs.now l.i t.result t.ensures left q.3 in
     let own : c.root-tag.result ≡ t.result.tag = c.root-tag.ensures ∙ sym fitting.root in
     let o = rw own at (rw c.in-Some.is at c.seek.ensures) in
-    (matching a.tables.now a.ledger.now a.inputs.now l.links l.flags l.ledger l.i l.invariant left q.1 t.result t.ensures m p.0 p.1 len, omega (arith, room a.tables.now a.ledger.now a.inputs.now l.links l.flags l.ledger l.i l.invariant left q.1 t.result t.ensures m p.0 p.1 len, len), omega (arith, left, q.1, q.2), standing a.tables.now a.ledger.now a.inputs.now l.links l.flags l.ledger l.i l.invariant left q.1 t.result t.ensures m p.0 p.1 len fitting, fitting.cell, o)
+    (matching a.tables.now a.ledger.now a.inputs.now l.store.links l.store.flags l.ledger l.i l.invariant left q.1 t.result t.ensures m p.0 p.1 len, omega (arith, room a.tables.now a.ledger.now a.inputs.now l.store.links l.store.flags l.ledger l.i l.invariant left q.1 t.result t.ensures m p.0 p.1 len, len), omega (arith, left, q.1, q.2), standing a.tables.now a.ledger.now a.inputs.now l.store.links l.store.flags l.ledger l.i l.invariant left q.1 t.result t.ensures m p.0 p.1 len fitting, fitting.cell, o)
 
 pub loop-i-smaller : goal.loop-i-smaller
 loop-i-smaller c = omega (arith, c.loop-i-test.true)
@@ -132,12 +132,12 @@ loop-i-preserved c =
     let a = c.args in
     let q = c.requires in
     let l = c.loop-i in
-    let t = c.token_at-t in
-    let m = c.put_token.new.ledger in
-    let p = c.put_token.ensures in
+    let t = c.read-t in
+    let m = c.write.new.buf in
+    let p = c.write.ensures in
     let left : l.i < length a.inputs.now / token_width = omega (arith, c.loop-i-test.true) in
-    let len : length m ≡ length l.ledger = omega (arith, c.put_token.auto.ledger) in
-    more a.tables.now a.ledger.now a.inputs.now l.links l.flags l.ledger l.i l.invariant left q.1 t.result t.ensures m p.0 p.1 len c.enter.new.links c.enter.new.flags c.enter.ensures
+    let len : length m ≡ length l.ledger = omega (arith, c.write.auto.buf) in
+    more a.tables.now a.ledger.now a.inputs.now l.store.links l.store.flags l.ledger l.i l.invariant left q.1 t.result t.ensures m p.0 p.1 len c.enter.new.store.links c.enter.new.store.flags c.enter.ensures
 
 pub shape_of-ledger : goal.shape_of-ledger
 shape_of-ledger c = omega (arith, c.loop-i.invariant.size)
@@ -147,4 +147,4 @@ returns c =
     let a = c.args in
     let l = c.loop-i in
     let e : l.i ≡ length a.inputs.now / token_width = omega (arith, l.invariant.size) in
-    rw e at (taken_all a.tables.now a.ledger.now a.inputs.now l.ledger l.i l.links l.flags l.invariant (omega (arith, e)))
+    rw e at (taken_all a.tables.now a.ledger.now a.inputs.now l.ledger l.i l.store.links l.store.flags l.invariant (omega (arith, e)))

@@ -5,4 +5,4 @@ use Rattle.load.proofs.inputs.Given as goal
 
 abbrev pub invariant-loop-i : goal.invariant-loop-i
 invariant-loop-i l =
-    Taken l.tables l.links l.flags l.initial.ledger l.ledger l.inputs l.i
+    Taken l.tables l.store.links l.store.flags l.initial.ledger l.ledger l.inputs l.i

@@ -4,14 +4,6 @@ use borrow.Author.Tests.{eq-eqb, ne_eqb}
 use Rattle.plot_cache.specs.Serves.{any_order}
 use Rattle.plot_cache.proofs.any_order.Goals as goal
 
-pub rests-requires : goal.rests-requires
-unfolding any_order
-rests-requires c = search rules
-
-pub whole-requires : goal.whole-requires
-unfolding any_order
-whole-requires c = search rules
-
 pub returns-then-whole : goal.returns-then-whole
 unfolding any_order
 returns-then-whole c = rw (← c.rests.ensures, c.if-rests.true, eq-eqb _ _ c.if-asked-eq0.true, ← c.whole.ensures, c.if-whole.true)

@@ -1,5 +1,4 @@
 -- `profile::accepted` meets its contract: it begins as `start` says, proceeds, and what it leaves is said of the buffers as lent. Assumes nothing.
-use mathlib.Core.Path.{refl}
 use lib.ListN.{length}
 use Rattle.profile.proofs.Accepting.{accepted_by, all_live_lem, as_profile}
 use Rattle.profile.proofs.accepted.Goals as goal
@@ -7,7 +6,7 @@ use Rattle.profile.proofs.accepted.Goals as goal
 pub begin-used-requires : goal.begin-used-requires
 begin-used-requires c =
     let a = c.args in
-    (accepted_by a.graph.now a.arrays.now a.inputs.now (length a.ledger.now) (length a.cells.now) (length a.profile.now) c.requires, refl, c.new-flags.ensures)
+    (accepted_by a.graph.now a.arrays.now a.inputs.now (length a.ledger.now) (length a.cells.now) (length a.profile.now) c.requires, c.new-store.ensures.0, c.new-store.ensures.1)
 
 pub proceed-requires : goal.proceed-requires
 proceed-requires c =

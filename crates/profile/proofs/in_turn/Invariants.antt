@@ -5,4 +5,4 @@ use Rattle.profile.proofs.in_turn.Given as goal
 
 abbrev pub invariant-loop-firings : goal.invariant-loop-firings
 invariant-loop-firings l =
-    Midway (graph_of l.graph) l.tables l.initial.ledger l.initial.cells l.start l.count l.places l.links l.flags l.ledger l.cells l.used l.firings l.spent
+    Midway (graph_of l.graph) l.tables l.initial.ledger l.initial.cells l.start l.due.count l.due.places l.store.links l.store.flags l.ledger l.cells l.used l.firings l.spent

@@ -1,27 +1,10 @@
 -- `profile::profile` meets its contract: a check that failed leaves everything as lent, and an accepted profile ends as the rules say. Assumes nothing.
 use mathlib.Core.Path.{refl, sym, ap, ◌∙◌}
-use borrow.Author.Rules.{rules}
 use Rattle.rules.specs.declared.answer.Profiled.{Profiled}
 use Rattle.rules.specs.Answer.{values_of}
 use Rattle.rules.specs.Run.{answer, ledger_after, cells_after}
 use Rattle.rules.specs.Profile.{profile_unless_failed, profiled, profile_answer, profile_after}
 use Rattle.profile.proofs.profile.Goals as goal
-
-pub check-checked-requires : goal.check-checked-requires
-unfolding profiled profile_unless_failed profile_answer profile_after answer ledger_after cells_after
-check-checked-requires c = search rules
-
-pub enum_known-checked : goal.enum_known-checked
-unfolding profiled profile_unless_failed profile_answer profile_after answer ledger_after cells_after
-enum_known-checked c = search rules
-
-pub answered-requires : goal.answered-requires
-unfolding profiled profile_unless_failed profile_answer profile_after answer ledger_after cells_after
-answered-requires c = search rules
-
-pub enum_told-1 : goal.enum_told-1
-unfolding profiled profile_unless_failed profile_answer profile_after answer ledger_after cells_after
-enum_told-1 c = search rules
 
 pub accepted-requires : goal.accepted-requires
 unfolding profiled profile_unless_failed profile_answer profile_after answer ledger_after cells_after
@@ -33,18 +16,6 @@ returns-in-Err c =
     let e = sym c.check-checked.ensures ∙ c.in-Err.is in
     let r = c.answered.ensures in
     rw e (record { answered = r; numbers = ap (λ (p : Profiled). values_of p.answer) r; ledger_left = refl; cells_left = refl; profile_left = refl })
-
-pub shape_of-ledger : goal.shape_of-ledger
-unfolding profiled profile_unless_failed profile_answer profile_after answer ledger_after cells_after
-shape_of-ledger c = search rules
-
-pub shape_of-cells : goal.shape_of-cells
-unfolding profiled profile_unless_failed profile_answer profile_after answer ledger_after cells_after
-shape_of-cells c = search rules
-
-pub shape_of-profile : goal.shape_of-profile
-unfolding profiled profile_unless_failed profile_answer profile_after answer ledger_after cells_after
-shape_of-profile c = search rules
 
 pub returns-in-Ok : goal.returns-in-Ok
 unfolding profiled profile_unless_failed profile_answer profile_after answer ledger_after cells_after

@@ -12,12 +12,6 @@ use Rattle.profile.proofs.Places.{Left, left_start, left_word, left_one, copied_
 use Rattle.profile.proofs.put_places.Goals as goal
 use Rattle.profile.proofs.put_places.Goals.{In-loop-k, Start}
 
-pub enabled_at-b-requires : goal.enabled_at-b-requires
-enabled_at-b-requires c = omega (arith, c.requires.1, c.requires.2)
-
-pub word_at-rest-requires : goal.word_at-rest-requires
-word_at-rest-requires c = omega (arith, c.enabled_at-b.ensures.1)
-
 pub loop-k-init : goal.loop-k-init
 loop-k-init c =
     let all : length (places c.args.flags.now) ≡ ones c.args.flags.now = ones_places 0 c.args.flags.now c.word_at-rest.ensures.list.binary in
@@ -25,18 +19,6 @@ loop-k-init c =
     let some : 0 < ones f = omega (arith, all, c.requires.1, c.requires.2) in
     let first : c.enabled_at-b.result ≡ place 0 f = omega (arith, c.enabled_at-b.ensures.0, place_places 0 0 f c.word_at-rest.ensures.list.binary some) in
     (left_start c.word_at-rest.ensures.list c.enabled_at-b.result c.word_at-rest.result some first c.word_at-rest.ensures.value, λ j h. absurd (omega arith), c.requires.0, omega arith)
-
-pub lowest-p-requires : goal.lowest-p-requires
-lowest-p-requires c = c.if-rest-gt0.true
-
-pub overflow_mul-out : goal.overflow_mul-out
-overflow_mul-out c = omega (arith, c.loop-k.invariant.0.word)
-
-pub overflow_add-out : goal.overflow_add-out
-overflow_add-out c = omega (arith, c.loop-k.invariant.0.word, c.lowest-p.ensures.1)
-
-pub overflow_cast-out : goal.overflow_cast-out
-overflow_cast-out c = omega (arith, c.loop-k.invariant.0.word, c.lowest-p.ensures.1)
 
 pub offset_bounds-out-k : goal.offset_bounds-out-k
 offset_bounds-out-k c =
@@ -65,9 +47,6 @@ overflow_add-k c =
     let room : c.loop-k.k < 2048 = omega (arith, few, c.loop-k-test.true) in
     omega (arith, room)
 
-pub loop-k-smaller-then-rest-gt0 : goal.loop-k-smaller-then-rest-gt0
-loop-k-smaller-then-rest-gt0 c = omega (arith, c.loop-k-test.true)
-
 pub loop-k-preserved-then-rest-gt0 : goal.loop-k-preserved-then-rest-gt0
 loop-k-preserved-then-rest-gt0 c =
     let all : length (places c.args.flags.now) ≡ ones c.args.flags.now = ones_places 0 c.args.flags.now c.word_at-rest.ensures.list.binary in
@@ -83,9 +62,6 @@ loop-k-preserved-then-rest-gt0 c =
     let fits : l.k < length l.out = omega (arith, l.invariant.2, room) in
     (o.2 c.lowered-rest.result c.lowered-rest.ensures, copied_next l.k _ (places c.args.flags.now) l.out fits o.1 l.invariant.1, simp length-set l.invariant.2, omega (arith, c.loop-k-test.true))
 
-pub overflow_add-b : goal.overflow_add-b
-overflow_add-b c = omega (arith, c.loop-k.invariant.0.word)
-
 pub word_at-rest-requires-else-rest-gt0 : goal.word_at-rest-requires-else-rest-gt0
 word_at-rest-requires-else-rest-gt0 c =
     let all : length (places c.args.flags.now) ≡ ones c.args.flags.now = ones_places 0 c.args.flags.now c.word_at-rest.ensures.list.binary in
@@ -94,9 +70,6 @@ word_at-rest-requires-else-rest-gt0 c =
     let e : l.rest ≡ 0 = omega (arith, c.if-rest-gt0.false) in
     let none : 64 ≤ place 0 (in_word l.rest) = rw e (omega (arith, word_lowest 0, trailing_of_zero 64)) in
     (left_word c.word_at-rest.ensures.list l.b l.rest l.k l.invariant.0 more none).0
-
-pub loop-k-smaller : goal.loop-k-smaller
-loop-k-smaller c = omega (arith, c.loop-k.invariant.0.word)
 
 pub loop-k-preserved : goal.loop-k-preserved
 loop-k-preserved c =

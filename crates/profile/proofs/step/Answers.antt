@@ -28,17 +28,11 @@ all_of Outcomes.Hung h a = a
 all_of Outcomes.Spent h a = a
 all_of (Outcomes.Refused r p) h a = absurd (no_other h)
 
-pub enabled_places-count-requires : goal.enabled_places-count-requires
-enabled_places-count-requires c = c.requires.3
-
 pub ending-requires : goal.ending-requires
 ending-requires c = matching_room c.requires.1.matching
 
-pub returns-then-count-eq0 : goal.returns-then-count-eq0
-returns-then-count-eq0 c = record { step_done = step_none _ c.requires.0 c.requires.1 _ c.enabled_places-count.ensures.counted c.if-count-eq0.true _ c.ending.ensures; places_len = c.enabled_places-count.ensures.size }
-
-pub in_turn-done-requires : goal.in_turn-done-requires
-in_turn-done-requires c = (c.requires.0, c.requires.1, c.enabled_places-count.ensures, omega (arith, c.if-count-eq0.false))
+pub returns-then-due-eq0 : goal.returns-then-due-eq0
+returns-then-due-eq0 c = step_none _ c.requires.0 c.requires.1 _ c.fill.ensures.counted c.if-due-eq0.true _ c.ending.ensures
 
 pub overflow_sub-result : goal.overflow_sub-result
 overflow_sub-result c =
@@ -57,7 +51,7 @@ overflow_sub-result-in_default c =
     let a = all_of at-in-turn.result.outcome (opened c.in_default.in_default-own.keys2) at-in-turn.ensures in omega (arith, a.unspent_left, c.requires.2)
 
 pub returns-in-Refused : goal.returns-in-Refused
-returns-in-Refused c = record { step_done = rw c.in-Refused.is (rw c.in-Refused.is at c.in_turn-done.ensures); places_len = c.enabled_places-count.ensures.size }
+returns-in-Refused c = rw c.in-Refused.is (rw c.in-Refused.is at c.in_turn-done.ensures)
 
 pub returns-in_default : goal.returns-in_default
-returns-in_default c = let at-in-turn = c.in_turn-done in record { step_done = step_whole (all_of at-in-turn.result.outcome (opened c.in_default.in_default-own.keys2) at-in-turn.ensures) c.requires.2; places_len = c.enabled_places-count.ensures.size }
+returns-in_default c = let at-in-turn = c.in_turn-done in step_whole (all_of at-in-turn.result.outcome (opened c.in_default.in_default-own.keys2) at-in-turn.ensures) c.requires.2

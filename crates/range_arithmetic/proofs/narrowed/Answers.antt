@@ -2,7 +2,7 @@
 use mathlib.Core.Path.{sym, ◌∙◌}
 use mir.Facts.{to_z-of_z}
 use Rattle.arithmetic.proofs.Ranged.{ranged_fits}
-use Rattle.range_arithmetic.proofs.ByZero.{both_in}
+use Rattle.range_arithmetic.proofs.InBits.{both_in}
 use Rattle.range_arithmetic.proofs.narrowed.Goals as goal
 
 pub returns : goal.returns

@@ -3,4 +3,4 @@ use mathlib.Core.Path.{◌∙◌}
 use Rattle.range_engine.proofs.check_lent.Goals as goal
 
 pub returns : goal.returns
-returns c = c.check_lent.ensures ∙ rw (c.check-of_stores.ensures, c.check_stores.ensures)
+returns c = c.check_lent.ensures ∙ rw c.check_stores.ensures

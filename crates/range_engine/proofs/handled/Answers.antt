@@ -6,24 +6,24 @@ use lib.ListN.{length}
 use Rattle.record.specs.Widths.{range_cell_width}
 use Rattle.rules.specs.Answer.{values_of}
 use Rattle.rules.specs.RangeRun.{first_ranges, ranges_unless_failed, range_answer, range_ledger_after, range_cells_after}
-use Rattle.range_engine.proofs.Writing.{accepted_handles, inputs_stand, only_handles}
+use Rattle.range_engine.proofs.Writing.{accepted_handles, inputs_stand, ranges_few, only_handles}
 use Rattle.range_engine.proofs.handled.Goals as goal
 
-pub narrow-requires : goal.narrow-requires
+pub narrow-table-requires : goal.narrow-table-requires
 unfolding ranges_unless_failed range_answer range_ledger_after range_cells_after
-narrow-requires c = record { few = c.requires.0.few_inputs; records = omega (arith, c.requires.2); pairs = omega (arith, c.requires.3, c.requires.0.few_inputs) }
+narrow-table-requires c = record { few = c.requires.0.few_inputs; records = omega (arith, c.requires.2) }
 
 pub check-checked-requires : goal.check-checked-requires
 unfolding ranges_unless_failed range_answer range_ledger_after range_cells_after
-check-checked-requires c = only_handles _ _ _ _ _ c.requires.2 c.narrow.ensures
+check-checked-requires c = only_handles _ _ _ _ c.requires.2 c.narrow-table.ensures
 
 pub accepted-requires : goal.accepted-requires
 unfolding ranges_unless_failed range_answer range_ledger_after range_cells_after
 accepted-requires c =
     let a = c.args in
-    let w = c.narrow.ensures in
+    let w = c.narrow-table.ensures in
     let passed = sym c.check-checked.ensures ∙ c.in-Ok.is in
-    (rw (only_handles _ _ _ _ _ c.requires.2 w) (accepted_handles a.graph.now a.arrays.now a.inputs.now (length a.ledger.now) (length a.cells.now) c.requires.0 passed), c.requires.1, omega (arith, w.size, c.requires.3))
+    (rw (only_handles _ _ _ _ c.requires.2 w) (accepted_handles a.graph.now a.arrays.now a.inputs.now (length a.ledger.now) (length a.cells.now) c.requires.0 passed), c.requires.1, rw (only_handles _ _ _ _ c.requires.2 w) (ranges_few a.graph.now a.arrays.now a.inputs.now (length a.ledger.now) (length a.cells.now) c.requires.0 passed _ w.ranges))
 
 pub returns-in-Err : goal.returns-in-Err
 unfolding ranges_unless_failed range_answer range_ledger_after range_cells_after
@@ -36,9 +36,9 @@ pub returns-in-Ok : goal.returns-in-Ok
 unfolding ranges_unless_failed range_answer range_ledger_after range_cells_after
 returns-in-Ok c =
     let a = c.args in
-    let w = c.narrow.ensures in
+    let w = c.narrow-table.ensures in
     let e = sym c.check-checked.ensures ∙ c.in-Ok.is in
     let n = length a.cells.now / range_cell_width in
     let stands = inputs_stand a.graph.now a.arrays.now a.inputs.now (length a.ledger.now) (length a.cells.now) c.requires.0 e _ w.ranges n in
-    let l = c.accepted.ensures (first_ranges a.inputs.now n) (rw (only_handles _ _ _ _ _ c.requires.2 w) stands) in
+    let l = c.accepted.ensures (first_ranges a.inputs.now n) (rw (only_handles _ _ _ _ c.requires.2 w) stands) in
     rw e (record { answered = l.answered; numbers = ap values_of l.answered; ledger_left = l.ledger_left; cells_left = l.cells_left })

@@ -1,5 +1,5 @@
 -- `range_inputs::narrow` meets its contract. The invariant: the first i inputs stand as handles, and their ranges in the table. Assumes nothing.
-use Prim.Native.Nat.{◌+◌, ◌*◌, ◌≤◌, ◌/◌}
+use Prim.Native.Nat.{◌*◌, ◌≤◌, ◌/◌}
 use mathlib.Core.List.{◌∷◌, ◌++◌}
 use mathlib.Core.Path.{◌≡◌}
 use lib.IntN.{pos}
@@ -8,7 +8,6 @@ use Rattle.buffer.specs.Rows.{rows}
 use Rattle.record.specs.Widths.{token_width, range_token_width}
 use Rattle.arithmetic.specs.Ranges.{single}
 use Rattle.rules.specs.RangeRun.{range_in}
-use Rattle.range_table.specs.Table.{table_of}
 use Rattle.range_inputs.specs.Handles.{handles_from}
 use Rattle.range_inputs.proofs.narrow.Given as goal
 
@@ -17,5 +16,4 @@ invariant-loop-i l =
     (l.i ≤ length l.inputs / range_token_width)
     × (l.handles ≡ handles_from 1 l.i l.inputs ++ drop (l.i * token_width) l.initial.handles)
     × (length l.handles ≡ length l.initial.handles)
-    × (table_of (l.i + 1) l.table ≡ single (pos 0) ∷ rows range_token_width range_in l.i l.inputs)
-    × (length l.table ≡ length l.initial.table)
+    × (l.table ≡ single (pos 0) ∷ rows range_token_width range_in l.i l.inputs)

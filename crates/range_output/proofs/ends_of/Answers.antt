@@ -2,37 +2,8 @@
 use mir.Facts.{to_z-of_z}
 use mir.Syntax.{w32}
 use mir.Val.{SFits}
-use borrow.Author.Rules.{rules}
 use Rattle.range_output.specs.Left.{ends_of}
 use Rattle.range_output.proofs.ends_of.Goals as goal
-
-pub enum_known-content : goal.enum_known-content
-unfolding ends_of
-enum_known-content c = search rules
-
-pub meaning-r-requires : goal.meaning-r-requires
-unfolding ends_of
-meaning-r-requires c = search rules
-
-pub bits-requires : goal.bits-requires
-unfolding ends_of
-bits-requires c = search rules
-
-pub enum_known-content-in-Spent-1 : goal.enum_known-content-in-Spent-1
-unfolding ends_of
-enum_known-content-in-Spent-1 c = search rules
-
-pub meaning-r-requires-in-Spent : goal.meaning-r-requires-in-Spent
-unfolding ends_of
-meaning-r-requires-in-Spent c = search rules
-
-pub bits-requires-in-Spent : goal.bits-requires-in-Spent
-unfolding ends_of
-bits-requires-in-Spent c = search rules
-
-pub enum_known-content-in-Deferred-1 : goal.enum_known-content-in-Deferred-1
-unfolding ends_of
-enum_known-content-in-Deferred-1 c = search rules
 
 pub returns-in-Live : goal.returns-in-Live
 unfolding ends_of

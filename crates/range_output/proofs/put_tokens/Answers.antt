@@ -6,15 +6,15 @@ use Rattle.range_output.proofs.put_tokens.Goals as goal
 pub loop-i-init : goal.loop-i-init
 loop-i-init c = passed_none
 
-pub token_at-requires : goal.token_at-requires
-token_at-requires c = omega (arith, c.requires.1)
+pub read-requires : goal.read-requires
+read-requires c = omega (arith, c.requires.0)
 
 pub put_row-requires : goal.put_row-requires
-put_row-requires c = (omega (arith, c.loop-i.invariant.size, c.requires.2), rw c.token_bytes-row.ensures (length_token _))
+put_row-requires c = (omega (arith, c.loop-i.invariant.size, c.requires.1), rw c.token_bytes-row.ensures (length_token _))
 
 pub loop-i-preserved : goal.loop-i-preserved
 loop-i-preserved c =
-    passed_more c.loop-i.invariant (omega arith) (omega (arith, c.requires.2)) c.token_at.ensures c.token_bytes-row.ensures c.put_row.ensures
+    passed_more c.loop-i.invariant (omega arith) (omega (arith, c.requires.1)) c.read.ensures c.token_bytes-row.ensures c.put_row.ensures
 
 pub shape_of-out : goal.shape_of-out
 shape_of-out c = c.loop-i.invariant.size

@@ -20,4 +20,4 @@ in_ends t u (Spent h) e = refl
 in_ends t u (Deferred c) e = refl
 
 pub returns : goal.returns
-returns c = c.token_row.ensures ∙ rw c.ends_of-e.ensures (in_ends _ c.args.t _ refl)
+returns c = c.with_high.ensures ∙ rw (c.encode-plain.ensures.0, c.ends_of-e.ensures) (in_ends _ c.args.t _ refl)

@@ -2,8 +2,7 @@
 use Prim.Native.Nat.{◌*◌}
 use mathlib.Core.Bool.{true, not, not-not}
 use mathlib.Core.Path.{◌≡◌, sym, ap, ◌∙◌}
-use native.Mathlib.Omega.{arith}
-use lib.ListN.{take, drop, length-drop}
+use lib.ListN.{take, drop}
 use Rattle.record.specs.GraphRecords.{graph_of}
 use Rattle.record.specs.TokensAndTags.{encode_token, token_at, TokenFits}
 use Rattle.record.specs.Widths.{token_width}
@@ -12,14 +11,6 @@ use Rattle.rules.specs.Saved.{token_allowed}
 use Rattle.saved.specs.Passes.{arrives_at}
 use Rattle.saved.proofs.arrives.Goals as goal
 use Rattle.saved.proofs.arrives.Goals.{After-token_allowed}
-
-pub row_at-requires : goal.row_at-requires
-unfolding arrives_at
-row_at-requires c = omega (arith, c.requires.0)
-
-pub token_allowed-requires : goal.token_allowed-requires
-unfolding arrives_at
-token_allowed-requires c = (rw (c.row_at.ensures, length-drop) (omega (arith, c.requires.0)), c.requires.3)
 
 pub returns-then-not-token_allowed : goal.returns-then-not-token_allowed
 unfolding arrives_at
@@ -32,7 +23,7 @@ returns-then-not-path_made c =
       value = rw (
         allowed,
         c.if-not-token_allowed.false,
-        ← c.token_at-t.ensures,
+        ← c.read-t.ensures,
         ← c.path_made.ensures (graph_of c.args.graph.now) c.requires.2,
         c.if-not-path_made.true,
       );
@@ -46,7 +37,7 @@ returns-then-not-content_allowed c =
       value = rw (
         allowed,
         c.if-not-token_allowed.false,
-        ← c.token_at-t.ensures,
+        ← c.read-t.ensures,
         ← c.path_made.ensures (graph_of c.args.graph.now) c.requires.2,
         c.if-not-path_made.false,
         ← c.content_allowed.ensures,
@@ -54,10 +45,6 @@ returns-then-not-content_allowed c =
       );
       i_value = (λ h. false_true h);
     }
-
-pub find-requires : goal.find-requires
-unfolding arrives_at
-find-requires c = c.requires.1
 
 pub returns : goal.returns
 unfolding arrives_at
@@ -68,7 +55,7 @@ returns c =
       value = rw (
         allowed,
         yes,
-        ← c.token_at-t.ensures,
+        ← c.read-t.ensures,
         ← c.path_made.ensures (graph_of c.args.graph.now) c.requires.2,
         c.if-not-path_made.false,
         ← c.content_allowed.ensures,

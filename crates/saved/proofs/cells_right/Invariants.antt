@@ -14,5 +14,5 @@ use Rattle.saved.proofs.cells_right.Given as goal
 abbrev pub invariant-loop-c : goal.invariant-loop-c
 invariant-loop-c l =
     (l.c ≤ length l.cells / cell_width)
-    × ((tables flags ledger : List ℕ) (used : ℕ) → Matching tables l.links flags ledger used → all_up_to (cell_right (tokens used ledger) l.cells) l.c ≡ true)
+    × ((tables flags ledger : List ℕ) (used : ℕ) → Matching tables l.store.links flags ledger used → all_up_to (cell_right (tokens used ledger) l.cells) l.c ≡ true)
     × ((d : ℕ) → d < l.c → CellBytes l.cells d)

@@ -18,7 +18,7 @@ use Rattle.store_enabled.specs.Store.{StandingRecord}
 use Rattle.store.proofs.Laws.{matching_known}
 use Rattle.store.proofs.Writing.{put_same}
 use Rattle.saved.specs.Passes.{arrives_at, spent_of_two, closes_at, first_spent, enters_all}
-use Rattle.saved.proofs.Laws.{all_fails, all_more, told, arrives_parts, arrives_alone, counts_none, counts_more}
+use Rattle.saved.proofs.Laws.{all_fails, all_more, told, arrives_parts, arrives_alone, counts_more, byte_cond}
 use Rattle.saved.proofs.enter.Goals as goal
 
 -- record i, which can arrive, stands in its token
@@ -34,12 +34,6 @@ stands g tables ledger count i t few right arrived own e =
       alone = arrives_alone g tables ledger count i right arrived;
     })
 
-pub loop-i-init : goal.loop-i-init
-unfolding enters_all
-loop-i-init c =
-    let a = c.args in
-    (omega arith, c.requires.0, refl, counts_none (first_spent a.ledger.now), counts_none (spent_of_two a.tables.now a.ledger.now), counts_none (closes_at a.tables.now a.ledger.now))
-
 pub arrives-requires : goal.arrives-requires
 unfolding enters_all
 arrives-requires c =
@@ -53,41 +47,19 @@ returns-then-not-arrives c =
     let a = c.args in
     let test = arrives_at (graph_of a.graph.now) a.tables.now a.ledger.now a.count in record { value = rw (← all_fails test a.used l.i c.loop-i-test.true (sym c.arrives.ensures.value ∙ c.if-not-arrives.true)); cases = (λ h. false_true h) }
 
-pub token_at-t-requires : goal.token_at-t-requires
-unfolding enters_all
-token_at-t-requires c = omega (arith, c.loop-i-test.true, c.requires.1)
-
-pub overflow_add-fired : goal.overflow_add-fired
-unfolding enters_all
-overflow_add-fired c =
-    let l = c.loop-i in
-    omega (arith, l.invariant.3.few, c.one_if-fired.ensures.1, l.invariant.0, c.requires.1, c.requires.2)
-
-pub overflow_add-of_two : goal.overflow_add-of_two
-unfolding enters_all
-overflow_add-of_two c =
-    let l = c.loop-i in
-    omega (arith, l.invariant.4.few, c.one_if-of_two.ensures.1, l.invariant.0, c.requires.1, c.requires.2)
-
 pub closes-requires : goal.closes-requires
 unfolding enters_all
-closes-requires c = (c.token_at-t.ensures, (stands (graph_of c.args.graph.now) c.args.tables.now c.args.ledger.now c.args.count c.loop-i.i c.token_at-t.result c.requires.3 c.requires.5 (sym c.arrives.ensures.value ∙ c.if-not-arrives.false) (c.arrives.ensures.i_value c.if-not-arrives.false) c.token_at-t.ensures).low, matching_known c.loop-i.invariant.1)
-
-pub overflow_add-closed : goal.overflow_add-closed
-unfolding enters_all
-overflow_add-closed c =
-    let l = c.loop-i in
-    omega (arith, l.invariant.5.few, c.one_if-closed.ensures.1, l.invariant.0, c.requires.1, c.requires.2)
+closes-requires c = (c.read-t.ensures, (stands (graph_of c.args.graph.now) c.args.tables.now c.args.ledger.now c.args.count c.loop-i.i c.read-t.result c.requires.3 c.requires.5 (sym c.arrives.ensures.value ∙ c.if-not-arrives.false) (c.arrives.ensures.i_value c.if-not-arrives.false) c.read-t.ensures).low, matching_known c.loop-i.invariant.1)
 
 pub seek-requires : goal.seek-requires
 unfolding enters_all
-seek-requires c = (matching_known c.loop-i.invariant.1, (stands (graph_of c.args.graph.now) c.args.tables.now c.args.ledger.now c.args.count c.loop-i.i c.token_at-t.result c.requires.3 c.requires.5 (sym c.arrives.ensures.value ∙ c.if-not-arrives.false) (c.arrives.ensures.i_value c.if-not-arrives.false) c.token_at-t.ensures).low)
+seek-requires c = (matching_known c.loop-i.invariant.1, (stands (graph_of c.args.graph.now) c.args.tables.now c.args.ledger.now c.args.count c.loop-i.i c.read-t.result c.requires.3 c.requires.5 (sym c.arrives.ensures.value ∙ c.if-not-arrives.false) (c.arrives.ensures.i_value c.if-not-arrives.false) c.read-t.ensures).low)
 
 pub returns-in_default : goal.returns-in_default
 unfolding enters_all
 returns-in_default c =
     let p = arrives_parts (graph_of c.args.graph.now) c.args.tables.now c.args.ledger.now c.args.count c.loop-i.i c.requires.3 (sym c.arrives.ensures.value ∙ c.if-not-arrives.false) in
-    let taken = rw (c.in_default.is, c.token_at-t.ensures) at c.seek.ensures in
+    let taken = rw (c.in_default.is, c.read-t.ensures) at c.seek.ensures in
     absurd (false_true (sym (ap is_some p.2) ∙ taken))
 
 pub enter-requires : goal.enter-requires
@@ -97,11 +69,7 @@ enter-requires c =
     let a = c.args in
     let h = c.loop-i-test.true in
     let p = arrives_parts (graph_of a.graph.now) a.tables.now a.ledger.now a.count l.i c.requires.3 (sym c.arrives.ensures.value ∙ c.if-not-arrives.false) in
-    (l.invariant.1, omega (arith, h, c.requires.1), omega (arith, h, c.requires.1, c.requires.2), (stands (graph_of c.args.graph.now) c.args.tables.now c.args.ledger.now c.args.count c.loop-i.i c.token_at-t.result c.requires.3 c.requires.5 (sym c.arrives.ensures.value ∙ c.if-not-arrives.false) (c.arrives.ensures.i_value c.if-not-arrives.false) c.token_at-t.ensures), rw c.token_at-t.ensures p.1, rw c.in-Some.is at c.seek.ensures)
-
-pub loop-i-smaller : goal.loop-i-smaller
-unfolding enters_all
-loop-i-smaller c = omega (arith, c.loop-i-test.true, c.requires.1, c.requires.2)
+    (l.invariant.1, omega (arith, h, c.requires.1), omega (arith, h, c.requires.1, c.requires.2), (stands (graph_of c.args.graph.now) c.args.tables.now c.args.ledger.now c.args.count c.loop-i.i c.read-t.result c.requires.3 c.requires.5 (sym c.arrives.ensures.value ∙ c.if-not-arrives.false) (c.arrives.ensures.i_value c.if-not-arrives.false) c.read-t.ensures), rw c.read-t.ensures p.1, rw c.in-Some.is at c.seek.ensures)
 
 pub loop-i-preserved : goal.loop-i-preserved
 unfolding enters_all
@@ -109,20 +77,14 @@ loop-i-preserved c =
     let l = c.loop-i in
     let a = c.args in
     let m = a.ledger.now in
-    let e = c.token_at-t.ensures in (
+    let e = c.read-t.ensures in (
       omega (arith, c.loop-i-test.true),
       c.enter.ensures,
       all_more (arrives_at (graph_of a.graph.now) a.tables.now m a.count) l.i (sym c.arrives.ensures.value ∙ c.if-not-arrives.false) l.invariant.2,
-      counts_more (first_spent m) l.i l.fired c.one_if-fired.result l.invariant.3 (c.one_if-fired.ensures.0 ∙ ap (λ (b : Bool). cond b 1 0) (c.first_spent.ensures m l.i e)),
-      counts_more (spent_of_two a.tables.now m) l.i l.of_two c.one_if-of_two.result l.invariant.4 (c.one_if-of_two.ensures.0 ∙ ap (λ (b : Bool). cond b 1 0) (c.spent_of_two.ensures m l.i e)),
-      counts_more (closes_at a.tables.now m) l.i l.closed c.one_if-closed.result l.invariant.5 (c.one_if-closed.ensures.0 ∙ ap (λ (b : Bool). cond b 1 0) c.closes.ensures),
+      counts_more (first_spent m) l.i l.fired c.from-fired.result l.invariant.3 (c.from-fired.ensures ∙ byte_cond _ ∙ ap (λ (b : Bool). cond b 1 0) (c.first_spent.ensures m l.i e)),
+      counts_more (spent_of_two a.tables.now m) l.i l.of_two c.from-of_two.result l.invariant.4 (c.from-of_two.ensures ∙ byte_cond _ ∙ ap (λ (b : Bool). cond b 1 0) (c.spent_of_two.ensures m l.i e)),
+      counts_more (closes_at a.tables.now m) l.i l.closed c.from-closed.result l.invariant.5 (c.from-closed.ensures ∙ byte_cond _ ∙ ap (λ (b : Bool). cond b 1 0) c.closes.ensures),
     )
-
-pub overflow_mul-closed : goal.overflow_mul-closed
-unfolding enters_all
-overflow_mul-closed c =
-    let l = c.loop-i in
-    omega (arith, l.invariant.5.few, l.invariant.0, c.requires.1, c.requires.2)
 
 pub returns-then-closed-of_two : goal.returns-then-closed-of_two
 unfolding enters_all

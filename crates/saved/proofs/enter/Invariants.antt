@@ -11,5 +11,5 @@ use Rattle.saved.proofs.enter.Given as goal
 
 abbrev pub invariant-loop-i : goal.invariant-loop-i
 invariant-loop-i l =
-    (l.i ≤ l.used) × Matching l.tables l.links l.flags l.ledger l.i × (all_up_to (arrives_at (graph_of l.graph) l.tables l.ledger l.count) l.i ≡ true)
+    (l.i ≤ l.used) × Matching l.tables l.store.links l.store.flags l.ledger l.i × (all_up_to (arrives_at (graph_of l.graph) l.tables l.ledger l.count) l.i ≡ true)
     × Counts (first_spent l.ledger) l.i l.fired × Counts (spent_of_two l.tables l.ledger) l.i l.of_two × Counts (closes_at l.tables l.ledger) l.i l.closed

@@ -13,21 +13,15 @@ use Rattle.saved.proofs.Laws.{no_sites, one_site}
 use Rattle.saved.proofs.find_sites.Goals as goal
 
 pub loop-i-init : goal.loop-i-init
-loop-i-init c = (omega arith, refl, no_sites)
-
-pub instruction_at-requires : goal.instruction_at-requires
-instruction_at-requires c = omega (arith, c.loop-i-test.true)
-
-pub loop-i-smaller : goal.loop-i-smaller
-loop-i-smaller c = omega (arith, c.loop-i-test.true)
+loop-i-init c = (omega arith, rw c.none-sites.ensures, rw c.none-sites.ensures no_sites)
 
 pub loop-i-preserved : goal.loop-i-preserved
 loop-i-preserved c =
     let l = c.loop-i in
     let g = c.args.graph.now in
-    let r = c.instruction_at.result in
+    let r = c.read.result in
     let h : l.i < length g / graph_width = omega (arith, c.loop-i-test.true) in
-    let e = in_graph g l.i h r ∙ sym c.instruction_at.ensures in (
+    let e = in_graph g l.i h r ∙ sym c.read.ensures in (
       omega arith,
       rw c.note.ensures (length_at_site l.sites r _ ∙ l.invariant.1),
       rw (take_next (graph_of g) l.i r (omega (arith, length_graph g)) e, c.note.ensures) (one_site (take l.i (graph_of g)) l.sites r _ (omega (arith, l.invariant.1)) l.invariant.2),

@@ -1,14 +1,11 @@
 -- `saved::path_made` meets its contract. The invariant: the levels that are left decide of the path that is left. Assumes nothing.
 use Prim.Native.Nat.{ℕ, ◌-◌, ◌+◌, suc}
 use native.Mathlib.Omega.{arith}
-use mathlib.Core.Path.{◌≡◌, refl, sym, ap, ◌∙◌}
+use mathlib.Core.Path.{◌≡◌, sym, ap, ◌∙◌}
 use Rattle.record.specs.Calls.{most_levels}
 use Rattle.rules.specs.Saved.{path_made}
 use Rattle.saved.proofs.Laws.{no_level, bad_level, good_level, last_level}
 use Rattle.saved.proofs.path_made.Goals as goal
-
-pub loop-init : goal.loop-init
-loop-init c = λ g h. refl
 
 pub returns-in_default : goal.returns-in_default
 returns-in_default c g h =
@@ -16,14 +13,11 @@ returns-in_default c g h =
     let s = c.args in
     sym (l.invariant g h ∙ no_level g s.sites.now h (most_levels - l.counter) l.at (sym c.leave.ensures ∙ c.in_default.is))
 
-pub returns-then-sites-caller-eq0 : goal.returns-then-sites-caller-eq0
-returns-then-sites-caller-eq0 c g h =
+pub returns-then-not-has : goal.returns-then-not-has
+returns-then-not-has c g h =
     let l = c.loop in
     let s = c.args in
-    sym (l.invariant g h ∙ bad_level g s.sites.now h (most_levels - l.counter) l.at c.in-Some.caller.site _ (sym c.leave.ensures ∙ c.in-Some.is) (omega (arith, c.in-Some.known_told-1-own.given)) c.if-sites-caller-eq0.true)
-
-pub loop-smaller : goal.loop-smaller
-loop-smaller c = omega (arith, c.loop-test.true)
+    sym (l.invariant g h ∙ bad_level g s.sites.now h (most_levels - l.counter) l.at c.in-Some.caller.site _ (sym c.leave.ensures ∙ c.in-Some.is) (omega (arith, c.in-Some.known_told-1-own.given)) (sym c.has.ensures ∙ c.if-not-has.true))
 
 pub loop-preserved : goal.loop-preserved
 loop-preserved c =
@@ -32,7 +26,7 @@ loop-preserved c =
     let rest = most_levels - (l.counter + 1) in
     let k : most_levels - l.counter ≡ suc rest = omega (arith, c.loop-test.true) in
     λ g h. l.invariant g h ∙ ap (λ (m : ℕ). path_made g m l.at) k
-    ∙ good_level g s.sites.now h rest l.at c.in-Some.caller.site _ (sym c.leave.ensures ∙ c.in-Some.is) (omega (arith, c.in-Some.known_told-1-own.given)) c.if-sites-caller-eq0.false
+    ∙ good_level g s.sites.now h rest l.at c.in-Some.caller.site _ (sym c.leave.ensures ∙ c.in-Some.is) (omega (arith, c.in-Some.known_told-1-own.given)) (sym c.has.ensures ∙ c.if-not-has.false)
 
 pub returns : goal.returns
 returns c g h =

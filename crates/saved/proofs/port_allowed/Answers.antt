@@ -3,12 +3,6 @@ use Rattle.record.specs.GraphRecords.{graph_of}
 use Rattle.saved.proofs.Laws.{operands_of_lem}
 use Rattle.saved.proofs.port_allowed.Goals as goal
 
-pub operands_at-requires : goal.operands_at-requires
-operands_at-requires c = c.counts-counts.ensures
-
-pub returns-then-operands-eq0 : goal.returns-then-operands-eq0
-returns-then-operands-eq0 c = rw c.operands_at.ensures
-
 pub returns : goal.returns
 returns c =
     let x = c.args in

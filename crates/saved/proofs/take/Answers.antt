@@ -15,7 +15,7 @@ pub returns-then-ledger-used : goal.returns-then-ledger-used
 returns-then-ledger-used c = let a = c.args in record { value = too_many a.graph.now a.ledger.now a.cells.now a.tables.now a.firings a.used c.requires.0.arities_right c.if-ledger-used.true; running = (λ h. false_true h) }
 
 pub enter-requires : goal.enter-requires
-enter-requires c = (rw (c.requires.4, c.requires.5) (matching_start c.args.tables.now c.args.ledger.now), omega (arith, c.if-ledger-used.false), c.requires.1, c.requires.3, c.find_sites.ensures, c.requires.0.arities_right)
+enter-requires c = (rw (c.requires.4, c.requires.5) (matching_start c.args.tables.now c.args.ledger.now), omega (arith, c.if-ledger-used.false), c.requires.1, c.requires.3, c.find_sites-sites.ensures, c.requires.0.arities_right)
 
 pub returns-then-not-enter : goal.returns-then-not-enter
 returns-then-not-enter c =
@@ -25,9 +25,6 @@ returns-then-not-enter c =
           ∙ enters (graph_of a.graph.now) a.tables.now a.ledger.now (length a.cells.now / cell_width) a.firings a.used c.requires.3 (record { arrive = p.arrive; partnered = p.partnered; counted = p.counted })));
       running = (λ h. false_true h);
     }
-
-pub cells_right-requires : goal.cells_right-requires
-cells_right-requires c = c.requires.3
 
 pub returns : goal.returns
 returns c =

@@ -11,18 +11,6 @@ use Rattle.saved.proofs.Laws.{token_own, told}
 use Rattle.saved.proofs.token_allowed.Goals as goal
 use Rattle.saved.proofs.token_allowed.Goals.{After-decode}
 
-pub decode-requires : goal.decode-requires
-unfolding token_allowed
-decode-requires c = c.requires.0
-
-pub port_allowed-requires : goal.port_allowed-requires
-unfolding token_allowed
-port_allowed-requires c = c.requires.1
-
-pub state_allowed-requires : goal.state_allowed-requires
-unfolding token_allowed
-state_allowed-requires c = c.requires.0
-
 pub returns-then-port_allowed : goal.returns-then-port_allowed
 unfolding token_allowed
 returns-then-port_allowed c =

@@ -13,6 +13,6 @@ returns c =
     let m = p.new.ledger in record {
       ledger_after = p.ensures.ledger_after;
       ledger_after_2 = p.ensures.ledger_after_2;
-      cases = arrived a.tables.now a.links.now a.flags.now a.ledger.now a.used a.t c.requires.4 c.requires.0
-          p.new.links p.new.flags m p.ensures.ledger_after_2 p.ensures.stored p.ensures.waiting;
+      cases = arrived a.tables.now a.store.now.links a.store.now.flags a.ledger.now a.used a.t c.requires.4 c.requires.0
+          p.new.store.links p.new.store.flags m p.ensures.ledger_after_2 p.ensures.stored p.ensures.waiting;
     }

@@ -10,5 +10,5 @@ pub returns : goal.returns
 returns c =
     let a = c.args in
     let p = c.enter in
-    arrived a.tables.now a.links.now a.flags.now a.ledger.now a.used a.t c.requires.4 c.requires.0
-    p.new.links p.new.flags a.ledger.now p.ensures.ledger_value p.ensures.stored p.ensures.waiting
+    arrived a.tables.now a.store.now.links a.store.now.flags a.ledger.now a.used a.t c.requires.4 c.requires.0
+    p.new.store.links p.new.store.flags a.ledger.now p.ensures.ledger_value p.ensures.stored p.ensures.waiting

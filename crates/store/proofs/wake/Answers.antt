@@ -40,30 +40,30 @@ stepped cell v tables links flags l used w small flags₁ m i g t is u made flag
 pub loop-at-init : goal.loop-at-init
 loop-at-init c =
     let a = c.args in
-    waking_start a.cell (to_z w32 (of_z w32 a.v)) a.tables.now a.links.now a.flags.now a.ledger.now a.used c.requires.0 c.requires.1 _ c.place_at-at.ensures
+    (refl, waking_start a.cell (to_z w32 (of_z w32 a.v)) a.tables.now a.store.now.links a.store.now.flags a.ledger.now a.used c.requires.0 c.requires.1 _ c.place_at-at.ensures)
 
-pub token_at-t-requires : goal.token_at-t-requires
-token_at-t-requires c =
+pub read-t-requires : goal.read-t-requires
+read-t-requires c =
     let a = c.args in
     let l = c.loop-at in
-    omega (arith, waking_low a.cell (to_z w32 (of_z w32 a.v)) a.tables.now a.links.now a.flags.now a.ledger.now a.used c.requires.0 c.requires.1 l.flags l.ledger c.in-Some.i (rw c.in-Some.is at l.invariant), l.invariant.store.known.room)
+    omega (arith, waking_low a.cell (to_z w32 (of_z w32 a.v)) a.tables.now a.store.now.links a.store.now.flags a.ledger.now a.used c.requires.0 c.requires.1 l.store.flags l.ledger c.in-Some.i (rw c.in-Some.is at l.invariant.1), l.invariant.1.store.known.room)
 
 pub change-requires : goal.change-requires
 change-requires c =
     let a = c.args in
     let l = c.loop-at in
     let e = c.woken-u.ensures in
-    let t = c.token_at-t.ensures in
-    let low = waking_low a.cell (to_z w32 (of_z w32 a.v)) a.tables.now a.links.now a.flags.now a.ledger.now a.used c.requires.0 c.requires.1 l.flags l.ledger c.in-Some.i (rw c.in-Some.is at l.invariant) in
-    (l.invariant.store, low, rw (e, t), rw (e, t), rw e (λ h. refl))
+    let t = c.read-t.ensures in
+    let low = waking_low a.cell (to_z w32 (of_z w32 a.v)) a.tables.now a.store.now.links a.store.now.flags a.ledger.now a.used c.requires.0 c.requires.1 l.store.flags l.ledger c.in-Some.i (rw c.in-Some.is at l.invariant.1) in
+    (rw l.invariant.0 l.invariant.1.store, low, rw (e, t), rw (e, t), rw e (λ h. refl))
 
 pub loop-at-smaller : goal.loop-at-smaller
 loop-at-smaller c =
     let a = c.args in
     let l = c.loop-at in
     let p = c.change in
-    let step = stepped a.cell (to_z w32 (of_z w32 a.v)) a.tables.now a.links.now a.flags.now a.ledger.now a.used c.requires.0 c.requires.1 l.flags l.ledger c.in-Some.i (rw c.in-Some.is at l.invariant) c.token_at-t.result c.token_at-t.ensures c.woken-u.result c.woken-u.ensures
-    p.new.flags p.new.ledger (omega (arith, p.auto.ledger)) p.ensures.ledger_after p.ensures.ledger_after_2 p.ensures.stored _ c.place_at-at-in-Some.ensures in
+    let step = stepped a.cell (to_z w32 (of_z w32 a.v)) a.tables.now a.store.now.links a.store.now.flags a.ledger.now a.used c.requires.0 c.requires.1 l.store.flags l.ledger c.in-Some.i (rw c.in-Some.is at l.invariant.1) c.read-t.result c.read-t.ensures c.woken-u.result c.woken-u.ensures
+    p.new.store.flags p.new.ledger (omega (arith, p.auto.ledger)) p.ensures.ledger_after p.ensures.ledger_after_2 (rw (p.ensures.links_kept, l.invariant.0) at p.ensures.stored) _ (rw (p.ensures.links_kept, l.invariant.0) at c.place_at-at-in-Some.ensures) in
     rw c.in-Some.is step.0
 
 pub loop-at-preserved : goal.loop-at-preserved
@@ -71,20 +71,20 @@ loop-at-preserved c =
     let a = c.args in
     let l = c.loop-at in
     let p = c.change in
-    let step = stepped a.cell (to_z w32 (of_z w32 a.v)) a.tables.now a.links.now a.flags.now a.ledger.now a.used c.requires.0 c.requires.1 l.flags l.ledger c.in-Some.i (rw c.in-Some.is at l.invariant) c.token_at-t.result c.token_at-t.ensures c.woken-u.result c.woken-u.ensures
-    p.new.flags p.new.ledger (omega (arith, p.auto.ledger)) p.ensures.ledger_after p.ensures.ledger_after_2 p.ensures.stored _ c.place_at-at-in-Some.ensures in
-    step.1
+    let step = stepped a.cell (to_z w32 (of_z w32 a.v)) a.tables.now a.store.now.links a.store.now.flags a.ledger.now a.used c.requires.0 c.requires.1 l.store.flags l.ledger c.in-Some.i (rw c.in-Some.is at l.invariant.1) c.read-t.result c.read-t.ensures c.woken-u.result c.woken-u.ensures
+    p.new.store.flags p.new.ledger (omega (arith, p.auto.ledger)) p.ensures.ledger_after p.ensures.ledger_after_2 (rw (p.ensures.links_kept, l.invariant.0) at p.ensures.stored) _ (rw (p.ensures.links_kept, l.invariant.0) at c.place_at-at-in-Some.ensures) in
+    (p.ensures.links_kept ∙ l.invariant.0, step.1)
 
 pub shape_of-ledger : goal.shape_of-ledger
-shape_of-ledger c = omega (arith, c.loop-at.invariant.size)
+shape_of-ledger c = omega (arith, c.loop-at.invariant.1.size)
 
 pub returns : goal.returns
 returns c =
     let a = c.args in
     let l = c.loop-at in
-    let g : Waking a.cell a.v a.tables.now a.links.now a.ledger.now a.used l.flags l.ledger 0 = rw (c.in_default.is, to_z-of_z c.ranges.v) at l.invariant in
+    let g : Waking a.cell a.v a.tables.now a.store.now.links a.ledger.now a.used l.store.flags l.ledger 0 = rw (c.in_default.is, to_z-of_z c.ranges.v) at l.invariant.1 in
     record {
-      ledger_after = waking_ledger a.cell a.v a.tables.now a.links.now a.flags.now a.ledger.now a.used c.requires.0 c.requires.1 l.flags l.ledger g;
-      ledger_after_2 = waking_tokens a.cell a.v a.tables.now a.links.now a.flags.now a.ledger.now a.used c.requires.0 c.requires.1 l.flags l.ledger g;
-      cases = waking_end a.cell a.v a.tables.now a.links.now a.flags.now a.ledger.now a.used c.requires.0 c.requires.1 l.flags l.ledger g;
+      ledger_after = waking_ledger a.cell a.v a.tables.now a.store.now.links a.store.now.flags a.ledger.now a.used c.requires.0 c.requires.1 l.store.flags l.ledger g;
+      ledger_after_2 = waking_tokens a.cell a.v a.tables.now a.store.now.links a.store.now.flags a.ledger.now a.used c.requires.0 c.requires.1 l.store.flags l.ledger g;
+      cases = rw l.invariant.0 (waking_end a.cell a.v a.tables.now a.store.now.links a.store.now.flags a.ledger.now a.used c.requires.0 c.requires.1 l.store.flags l.ledger g);
     }

@@ -14,7 +14,7 @@ stepped : (c : After-place_at-at-in-Some) → let a = c.args in
     (link_of next < suc c.in-Some.i) × Walk a.ledger.now a.used a.tag a.port (link_of next) 0
 stepped c =
     let a = c.args in
-    let off = rw c.token_at-t.ensures at (sym c.stands_at.ensures ∙ c.if-stands_at.false) in
+    let off = rw c.read-t.ensures at (sym c.stands_at.ensures ∙ c.if-stands_at.false) in
     rw off at (walk_step a.ledger.now a.used a.tag a.port a.links.now c.requires.1 c.in-Some.i 0 _ c.place_at-at-in-Some.ensures (rw c.in-Some.is at c.loop-at.invariant))
 
 pub loop-at-init : goal.loop-at-init
@@ -27,7 +27,7 @@ returns-then-stands_at c =
     let a = c.args in
     let w : Walk a.ledger.now a.used a.tag a.port (suc c.in-Some.i) 0 = rw c.in-Some.is at c.loop-at.invariant in
     let h : c.in-Some.i < a.used = omega (arith, w.low) in
-    let there = rw c.token_at-t.ensures at (sym c.stands_at.ensures ∙ c.if-stands_at.true) in
+    let there = rw c.read-t.ensures at (sym c.stands_at.ensures ∙ c.if-stands_at.true) in
     (sym (walk_met a.ledger.now a.used a.tag a.port c.requires.2 c.in-Some.i h there), h)
 
 pub loop-at-smaller : goal.loop-at-smaller

@@ -2,7 +2,6 @@
 use Prim.Native.Nat.{ℕ, ◌+◌, ◌*◌, ◌%◌, ◌/◌, ◌<◌}
 use mathlib.Core.Path.{refl}
 use native.Mathlib.Omega.{arith}
-use borrow.Author.Rules.{rules}
 use Rattle.store_chains.specs.Chains.{mix}
 use Rattle.store_chains.proofs.mixed.Goals as goal
 
@@ -15,18 +14,6 @@ lower n = omega arith
 
 upper : (n : ℕ) → n < 18446744073709551616 → n / 4294967296 < 4294967296
 upper n h = omega arith
-
-pub overflow_mul-result : goal.overflow_mul-result
-unfolding mix
-overflow_mul-result c = search rules
-
-pub overflow_mul-result-2 : goal.overflow_mul-result-2
-unfolding mix
-overflow_mul-result-2 c = search rules
-
-pub overflow_add-result : goal.overflow_add-result
-unfolding mix
-overflow_add-result c = search rules
 
 pub returns : goal.returns
 unfolding mix

@@ -18,10 +18,10 @@ loop-at-init c =
 pub returns-then-t-port : goal.returns-then-t-port
 returns-then-t-port c =
     let a = c.args in
-    let t = c.token_at-t.ensures in
+    let t = c.read-t.ensures in
     let own : Walk a.ledger.now a.used a.tag a.port (suc c.in-Some.i) 0 = rw c.in-Some.is at c.loop-at.invariant.0 in
     let within : c.in-Some.i < a.used = omega (arith, own.low) in
-    seek_taken a.ledger.now a.used a.tag a.port c.in-Some.i within (rw t at (sym (c.eq.ensures ∙ equal_tags c.token_at-t.result.tag c.args.tag) ∙ c.if-eq.true)) (rw t at c.if-t-port.true)
+    seek_taken a.ledger.now a.used a.tag a.port c.in-Some.i within (rw t at (sym (c.eq.ensures ∙ equal_tags c.read-t.result.tag c.args.tag) ∙ c.if-eq.true)) (rw t at c.if-t-port.true)
 
 pub loop-at-smaller : goal.loop-at-smaller
 loop-at-smaller c =
@@ -32,12 +32,12 @@ pub loop-at-preserved : goal.loop-at-preserved
 loop-at-preserved c =
     let a = c.args in
     let i = c.in-Some.i in
-    let t = c.token_at-t.ensures in
+    let t = c.read-t.ensures in
     let own : Walk a.ledger.now a.used a.tag a.port (suc i) 0 = rw c.in-Some.is at c.loop-at.invariant.0 in
     let other : Walk a.ledger.now a.used a.tag (1 - a.port) (suc i) (link_of c.loop-at.partner) = rw c.in-Some.is at c.loop-at.invariant.1 in
     let within : i < a.used = omega (arith, own.low) in
     let next = c.place_at-at-in-Some.ensures in
-    let has = c.eq.ensures ∙ equal_tags c.token_at-t.result.tag c.args.tag in
+    let has = c.eq.ensures ∙ equal_tags c.read-t.result.tag c.args.tag in
     elim c.if-eq.branch [
       | then-eq+else-t-port w ↦
           let r = seek_partner a.ledger.now a.used a.tag a.port c.requires.2 a.links.now c.requires.1 i (link_of c.loop-at.partner) _ next own other

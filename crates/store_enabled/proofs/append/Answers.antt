@@ -20,7 +20,7 @@ use Rattle.store_chains.specs.Partners.{Partnered, Beside}
 use Rattle.store_flags.specs.Marks.{bit}
 use Rattle.store_enabled.specs.Enabled.{is_live_record, arity_of, is_enabled, earliest_of}
 use Rattle.store_enabled.specs.Store.{Last, Stored}
-use Rattle.store_enabled.proofs.Store.{slot_within, slot_beside, Moved, added, added_there, added_last}
+use Rattle.store_enabled.proofs.Stored.{slot_within, slot_beside, Moved, added, added_there, added_last}
 use Rattle.store_enabled.proofs.Arriving.{flag_before, right_past, right_wait, raised_operand, not_live, last_waits}
 use Rattle.store_enabled.proofs.append.Goals as goal
 
@@ -70,33 +70,33 @@ module _ (tables links flags l written after : List ℕ) (used : ℕ) (t : Token
         go (no z) = past (omega arith)
 
 pub enter-requires : goal.enter-requires
-enter-requires c = let a = c.args in (c.requires.2, c.requires.4, c.requires.5.bucket, slot_within a.tables.now a.links.now a.flags.now a.ledger.now a.used a.t a.slot c.requires.0 c.requires.3 c.requires.5)
+enter-requires c = let a = c.args in (c.requires.2, c.requires.4, c.requires.5.bucket, slot_within a.tables.now a.store.now.links a.store.now.flags a.ledger.now a.used a.t a.slot c.requires.0 c.requires.3 c.requires.5)
 
 pub settle_arrived-requires : goal.settle_arrived-requires
 settle_arrived-requires c =
     let a = c.args in
     let q = c.requires in
-    let p = c.put_token in
+    let p = c.write in
     let n = c.enter in
-    let same : length p.new.ledger ≡ length a.ledger.now = omega (arith, p.auto.ledger) in
-    let e = entered a.tables.now a.links.now a.flags.now a.ledger.now p.new.ledger n.new.links a.used a.t a.slot q.0 q.1 q.2 q.3 q.5 p.ensures.0 p.ensures.1 same n.ensures.indexed n.ensures.partnered in
-    let here = there a.tables.now a.links.now a.flags.now a.ledger.now p.new.ledger n.new.links a.used a.t a.slot q.0 q.1 q.2 q.3 q.5 p.ensures.0 p.ensures.1 same n.ensures.indexed n.ensures.partnered in
+    let same : length p.new.buf ≡ length a.ledger.now = omega (arith, p.auto.buf) in
+    let e = entered a.tables.now a.store.now.links a.store.now.flags a.ledger.now p.new.buf n.new.links a.used a.t a.slot q.0 q.1 q.2 q.3 q.5 p.ensures.0 p.ensures.1 same n.ensures.indexed n.ensures.partnered in
+    let here = there a.tables.now a.store.now.links a.store.now.flags a.ledger.now p.new.buf n.new.links a.used a.t a.slot q.0 q.1 q.2 q.3 q.5 p.ensures.0 p.ensures.1 same n.ensures.indexed n.ensures.partnered in
     let live = ap (λ (x : Token). is_live_record x.content) here ∙ ap is_live_record c.in-Live.is in
-    (last a.tables.now a.links.now a.flags.now a.ledger.now p.new.ledger n.new.links a.used a.t a.slot q.0 q.1 q.2 q.3 q.5 p.ensures.0 p.ensures.1 same n.ensures.indexed n.ensures.partnered, live, λ h. rw e.more (flag_before a.tables.now a.ledger.now a.used a.t a.flags.now q.0.right q.5.free q.3 (rw c.entry_of-entry.ensures at h)))
+    (last a.tables.now a.store.now.links a.store.now.flags a.ledger.now p.new.buf n.new.links a.used a.t a.slot q.0 q.1 q.2 q.3 q.5 p.ensures.0 p.ensures.1 same n.ensures.indexed n.ensures.partnered, live, λ h. rw e.more (flag_before a.tables.now a.ledger.now a.used a.t a.store.now.flags q.0.right q.5.free q.3 (rw c.entry_of-entry.ensures at h)))
 
 pub returns-in-Live : goal.returns-in-Live
 returns-in-Live c =
     let a = c.args in
     let q = c.requires in
-    let p = c.put_token in
+    let p = c.write in
     let n = c.enter in
-    let same : length p.new.ledger ≡ length a.ledger.now = omega (arith, p.auto.ledger) in
-    let e = entered a.tables.now a.links.now a.flags.now a.ledger.now p.new.ledger n.new.links a.used a.t a.slot q.0 q.1 q.2 q.3 q.5 p.ensures.0 p.ensures.1 same n.ensures.indexed n.ensures.partnered in
+    let same : length p.new.buf ≡ length a.ledger.now = omega (arith, p.auto.buf) in
+    let e = entered a.tables.now a.store.now.links a.store.now.flags a.ledger.now p.new.buf n.new.links a.used a.t a.slot q.0 q.1 q.2 q.3 q.5 p.ensures.0 p.ensures.1 same n.ensures.indexed n.ensures.partnered in
     let ts = tokens a.used a.ledger.now in
     let vs = ts ++ a.t ∷ [] in
     let k = arity_of a.tables.now a.t.tag in
-    let once = raised_operand (ltb a.t.port k) (is_enabled a.tables.now vs a.t.tag) a.flags.now (earliest_of vs a.t.tag)
-    (λ h. past a.tables.now a.links.now a.flags.now a.ledger.now p.new.ledger n.new.links a.used a.t a.slot q.0 q.1 q.2 q.3 q.5 p.ensures.0 p.ensures.1 same n.ensures.indexed n.ensures.partnered (ltb-false a.t.port k h)) (waits a.tables.now a.links.now a.flags.now a.ledger.now p.new.ledger n.new.links a.used a.t a.slot q.0 q.1 q.2 q.3 q.5 p.ensures.0 p.ensures.1 same n.ensures.indexed n.ensures.partnered) in
+    let once = raised_operand (ltb a.t.port k) (is_enabled a.tables.now vs a.t.tag) a.store.now.flags (earliest_of vs a.t.tag)
+    (λ h. past a.tables.now a.store.now.links a.store.now.flags a.ledger.now p.new.buf n.new.links a.used a.t a.slot q.0 q.1 q.2 q.3 q.5 p.ensures.0 p.ensures.1 same n.ensures.indexed n.ensures.partnered (ltb-false a.t.port k h)) (waits a.tables.now a.store.now.links a.store.now.flags a.ledger.now p.new.buf n.new.links a.used a.t a.slot q.0 q.1 q.2 q.3 q.5 p.ensures.0 p.ensures.1 same n.ensures.indexed n.ensures.partnered) in
     let flags = c.settle_arrived.ensures.flags_after ∙ rw (c.entry_of-entry.ensures, e.more) once in
     record {
       ledger_after = p.ensures.0;
@@ -109,15 +109,15 @@ pub returns-in_default : goal.returns-in_default
 returns-in_default c =
     let a = c.args in
     let q = c.requires in
-    let p = c.put_token in
+    let p = c.write in
     let n = c.enter in
-    let same : length p.new.ledger ≡ length a.ledger.now = omega (arith, p.auto.ledger) in
-    let e = entered a.tables.now a.links.now a.flags.now a.ledger.now p.new.ledger n.new.links a.used a.t a.slot q.0 q.1 q.2 q.3 q.5 p.ensures.0 p.ensures.1 same n.ensures.indexed n.ensures.partnered in
+    let same : length p.new.buf ≡ length a.ledger.now = omega (arith, p.auto.buf) in
+    let e = entered a.tables.now a.store.now.links a.store.now.flags a.ledger.now p.new.buf n.new.links a.used a.t a.slot q.0 q.1 q.2 q.3 q.5 p.ensures.0 p.ensures.1 same n.ensures.indexed n.ensures.partnered in
     let ts = tokens a.used a.ledger.now in
     let off = not_live a.t.content c.in_default.not-Live in
     record {
       ledger_after = p.ensures.0;
       ledger_after_2 = e.more;
-      stored = e.stored a.flags.now (rw e.more (idle a.tables.now a.links.now a.flags.now a.ledger.now p.new.ledger n.new.links a.used a.t a.slot q.0 q.1 q.2 q.3 q.5 p.ensures.0 p.ensures.1 same n.ensures.indexed n.ensures.partnered off));
+      stored = e.stored a.store.now.flags (rw e.more (idle a.tables.now a.store.now.links a.store.now.flags a.ledger.now p.new.buf n.new.links a.used a.t a.slot q.0 q.1 q.2 q.3 q.5 p.ensures.0 p.ensures.1 same n.ensures.indexed n.ensures.partnered off));
       waiting = (λ w. rw e.more (n.ensures.waiting ts (length_rows token_width decode_token a.used a.ledger.now) w));
     }

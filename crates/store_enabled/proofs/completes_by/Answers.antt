@@ -1,6 +1,5 @@
 -- `store_enabled::completes_by` meets its contract. Assumes nothing.
 use mathlib.Core.Path.{sym, ◌∙◌}
-use borrow.Author.Rules.{rules}
 use borrow.Author.Tests.{ne_eqb, lt-ltb}
 use lib.Dec.{ltb}
 use Rattle.store_enabled.specs.Enabled.{waited_for}
@@ -11,17 +10,9 @@ pub returns-then-entry-eq1 : goal.returns-then-entry-eq1
 unfolding waited_for
 returns-then-entry-eq1 c = rw c.if-entry-eq1.true (first_port c.args.port)
 
-pub live-requires : goal.live-requires
-unfolding waited_for
-live-requires c = search rules
-
 pub returns-then-entry-eq2 : goal.returns-then-entry-eq2
 unfolding waited_for
 returns-then-entry-eq2 c = rw (c.if-entry-eq2.true, lt-ltb c.args.port 2 c.requires.1) c.live.ensures
-
-pub is_root-requires : goal.is_root-requires
-unfolding waited_for
-is_root-requires c = search rules
 
 pub returns-then-is_root : goal.returns-then-is_root
 unfolding waited_for

@@ -14,7 +14,7 @@ use lib.ListN.{length}
 use Rattle.store_chains.specs.Partners.{Partnered, Beside}
 use Rattle.store_enabled.specs.Enabled.{is_live_record, arity_of, is_enabled}
 use Rattle.store_enabled.specs.Store.{Stored, Last, StandingRecord, live_found, ready_of}
-use Rattle.store_enabled.proofs.Store.{slot_within, slot_beside, Moved, added, added_last}
+use Rattle.store_enabled.proofs.Stored.{slot_within, slot_beside, Moved, added, added_last}
 use Rattle.store_enabled.proofs.Arriving.{flag_before, port_below, right_wait, last_partner, last_place, last_flag, last_completes, last_waits, not_live}
 use Rattle.store_enabled.proofs.enter.Goals as goal
 
@@ -45,29 +45,29 @@ module _ (tables links flags l after : List ℕ) (used : ℕ) (t : Token) (slot 
     last = added_last tables links flags l used t stored room few p.low free.free p.fits l p.bytes refl after indexed partners slot free
 
 pub enter-requires : goal.enter-requires
-enter-requires c = let a = c.args in (c.requires.2, c.requires.4, c.requires.5.bucket, slot_within a.tables.now a.links.now a.flags.now a.ledger.now a.used a.t a.slot c.requires.0 c.requires.3.low c.requires.5)
+enter-requires c = let a = c.args in (c.requires.2, c.requires.4, c.requires.5.bucket, slot_within a.tables.now a.store.now.links a.store.now.flags a.ledger.now a.used a.t a.slot c.requires.0 c.requires.3.low c.requires.5)
 
 pub completes-requires : goal.completes-requires
 completes-requires c =
     let a = c.args in
     let q = c.requires in
     let n = c.enter in
-    last_partner (last a.tables.now a.links.now a.flags.now a.ledger.now n.new.links a.used a.t a.slot q.0 q.1 q.2 q.3 q.5 n.ensures.indexed n.ensures.partnered)
+    last_partner (last a.tables.now a.store.now.links a.store.now.flags a.ledger.now n.new.links a.used a.t a.slot q.0 q.1 q.2 q.3 q.5 n.ensures.indexed n.ensures.partnered)
 
 pub raise-requires : goal.raise-requires
 raise-requires c =
     let a = c.args in
     let q = c.requires in
     let n = c.enter in
-    let end = last a.tables.now a.links.now a.flags.now a.ledger.now n.new.links a.used a.t a.slot q.0 q.1 q.2 q.3 q.5 n.ensures.indexed n.ensures.partnered in
+    let end = last a.tables.now a.store.now.links a.store.now.flags a.ledger.now n.new.links a.used a.t a.slot q.0 q.1 q.2 q.3 q.5 n.ensures.indexed n.ensures.partnered in
     let k = arity_of a.tables.now a.t.tag in
     let live = ap (λ (x : Token). is_live_record x.content) q.3.same ∙ ap is_live_record c.in-Live.is in
     let whole : c.completes.result ≡ is_enabled a.tables.now (tokens (a.used + 1) a.ledger.now) a.t.tag =
     c.completes.ensures ∙ ap (λ (m : ℕ). ready_of m true (live_found (token_at a.ledger.now) a.slot.partner)) c.arity.ensures ∙ last_completes end k q.3.alone live in
-    let e = entered a.tables.now a.links.now a.flags.now a.ledger.now n.new.links a.used a.t a.slot q.0 q.1 q.2 q.3 q.5 n.ensures.indexed n.ensures.partnered in
+    let e = entered a.tables.now a.store.now.links a.store.now.flags a.ledger.now n.new.links a.used a.t a.slot q.0 q.1 q.2 q.3 q.5 n.ensures.indexed n.ensures.partnered in
     let on = sym whole ∙ c.if-completes.true in
     let below = port_below k a.t.port (tokens (a.used + 1) a.ledger.now) a.t.tag q.3.low q.3.alone on in
-    let down = flag_before a.tables.now a.ledger.now a.used a.t a.flags.now q.0.right q.5.free q.3.low below in
+    let down = flag_before a.tables.now a.ledger.now a.used a.t a.store.now.flags q.0.right q.5.free q.3.low below in
     (rw c.unwrap_or.ensures (last_flag end), rw (c.unwrap_or.ensures, ← last_place end, e.more) down)
 
 pub returns-then-completes : goal.returns-then-completes
@@ -75,12 +75,12 @@ returns-then-completes c =
     let a = c.args in
     let q = c.requires in
     let n = c.enter in
-    let end = last a.tables.now a.links.now a.flags.now a.ledger.now n.new.links a.used a.t a.slot q.0 q.1 q.2 q.3 q.5 n.ensures.indexed n.ensures.partnered in
+    let end = last a.tables.now a.store.now.links a.store.now.flags a.ledger.now n.new.links a.used a.t a.slot q.0 q.1 q.2 q.3 q.5 n.ensures.indexed n.ensures.partnered in
     let k = arity_of a.tables.now a.t.tag in
     let live = ap (λ (x : Token). is_live_record x.content) q.3.same ∙ ap is_live_record c.in-Live.is in
     let whole : c.completes.result ≡ is_enabled a.tables.now (tokens (a.used + 1) a.ledger.now) a.t.tag =
     c.completes.ensures ∙ ap (λ (m : ℕ). ready_of m true (live_found (token_at a.ledger.now) a.slot.partner)) c.arity.ensures ∙ last_completes end k q.3.alone live in
-    let e = entered a.tables.now a.links.now a.flags.now a.ledger.now n.new.links a.used a.t a.slot q.0 q.1 q.2 q.3 q.5 n.ensures.indexed n.ensures.partnered in
+    let e = entered a.tables.now a.store.now.links a.store.now.flags a.ledger.now n.new.links a.used a.t a.slot q.0 q.1 q.2 q.3 q.5 n.ensures.indexed n.ensures.partnered in
     let on = sym whole ∙ c.if-completes.true in
     let ts = tokens a.used a.ledger.now in
     record {
@@ -94,16 +94,16 @@ returns-else-completes c =
     let a = c.args in
     let q = c.requires in
     let n = c.enter in
-    let end = last a.tables.now a.links.now a.flags.now a.ledger.now n.new.links a.used a.t a.slot q.0 q.1 q.2 q.3 q.5 n.ensures.indexed n.ensures.partnered in
+    let end = last a.tables.now a.store.now.links a.store.now.flags a.ledger.now n.new.links a.used a.t a.slot q.0 q.1 q.2 q.3 q.5 n.ensures.indexed n.ensures.partnered in
     let k = arity_of a.tables.now a.t.tag in
     let live = ap (λ (x : Token). is_live_record x.content) q.3.same ∙ ap is_live_record c.in-Live.is in
     let whole : c.completes.result ≡ is_enabled a.tables.now (tokens (a.used + 1) a.ledger.now) a.t.tag =
     c.completes.ensures ∙ ap (λ (m : ℕ). ready_of m true (live_found (token_at a.ledger.now) a.slot.partner)) c.arity.ensures ∙ last_completes end k q.3.alone live in
-    let e = entered a.tables.now a.links.now a.flags.now a.ledger.now n.new.links a.used a.t a.slot q.0 q.1 q.2 q.3 q.5 n.ensures.indexed n.ensures.partnered in
+    let e = entered a.tables.now a.store.now.links a.store.now.flags a.ledger.now n.new.links a.used a.t a.slot q.0 q.1 q.2 q.3 q.5 n.ensures.indexed n.ensures.partnered in
     let ts = tokens a.used a.ledger.now in
     record {
       ledger_value = e.more;
-      stored = stays a.tables.now a.links.now a.flags.now a.ledger.now n.new.links a.used a.t a.slot q.0 q.1 q.2 q.3 q.5 n.ensures.indexed n.ensures.partnered (sym whole ∙ c.if-completes.false);
+      stored = stays a.tables.now a.store.now.links a.store.now.flags a.ledger.now n.new.links a.used a.t a.slot q.0 q.1 q.2 q.3 q.5 n.ensures.indexed n.ensures.partnered (sym whole ∙ c.if-completes.false);
       waiting = (λ w. rw e.more (n.ensures.waiting ts (length_rows token_width decode_token a.used a.ledger.now) w));
     }
 
@@ -112,11 +112,11 @@ returns-in_default c =
     let a = c.args in
     let q = c.requires in
     let n = c.enter in
-    let e = entered a.tables.now a.links.now a.flags.now a.ledger.now n.new.links a.used a.t a.slot q.0 q.1 q.2 q.3 q.5 n.ensures.indexed n.ensures.partnered in
+    let e = entered a.tables.now a.store.now.links a.store.now.flags a.ledger.now n.new.links a.used a.t a.slot q.0 q.1 q.2 q.3 q.5 n.ensures.indexed n.ensures.partnered in
     let ts = tokens a.used a.ledger.now in
     let off = ap (λ (x : Token). is_live_record x.content) q.3.same ∙ not_live a.t.content c.in_default.not-Live in
     record {
       ledger_value = e.more;
-      stored = stays a.tables.now a.links.now a.flags.now a.ledger.now n.new.links a.used a.t a.slot q.0 q.1 q.2 q.3 q.5 n.ensures.indexed n.ensures.partnered (last_waits (last a.tables.now a.links.now a.flags.now a.ledger.now n.new.links a.used a.t a.slot q.0 q.1 q.2 q.3 q.5 n.ensures.indexed n.ensures.partnered) (arity_of a.tables.now a.t.tag) q.3.alone off);
+      stored = stays a.tables.now a.store.now.links a.store.now.flags a.ledger.now n.new.links a.used a.t a.slot q.0 q.1 q.2 q.3 q.5 n.ensures.indexed n.ensures.partnered (last_waits (last a.tables.now a.store.now.links a.store.now.flags a.ledger.now n.new.links a.used a.t a.slot q.0 q.1 q.2 q.3 q.5 n.ensures.indexed n.ensures.partnered) (arity_of a.tables.now a.t.tag) q.3.alone off);
       waiting = (λ w. rw e.more (n.ensures.waiting ts (length_rows token_width decode_token a.used a.ledger.now) w));
     }

@@ -1,6 +1,5 @@
 -- `store_enabled::waited_for` meets its contract. Assumes nothing.
 use mathlib.Core.Path.{sym, ◌∙◌}
-use borrow.Author.Rules.{rules}
 use borrow.Author.Tests.{eq-eqb, ne_eqb}
 use Rattle.store_enabled.specs.Enabled.{waited_for}
 use Rattle.store_enabled.proofs.waited_for.Goals as goal
@@ -8,10 +7,6 @@ use Rattle.store_enabled.proofs.waited_for.Goals as goal
 pub returns-then-entry-ne-LEAVE_ENTRY : goal.returns-then-entry-ne-LEAVE_ENTRY
 unfolding waited_for
 returns-then-entry-ne-LEAVE_ENTRY c = rw (ne_eqb _ _ c.if-entry-ne-LEAVE_ENTRY.true)
-
-pub is_root-requires : goal.is_root-requires
-unfolding waited_for
-is_root-requires c = search rules
 
 pub returns-then-is_root : goal.returns-then-is_root
 unfolding waited_for

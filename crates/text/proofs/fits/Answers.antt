@@ -2,7 +2,7 @@
 use Prim.Native.Nat.{ℕ, ◌+◌, ◌/◌, ◌<◌}
 use borrow.Author.Rules.{rules}
 use native.Mathlib.Omega.{arith}
-use mathlib.Core.Path.{◌≡◌, refl, sym, ◌∙◌, ap}
+use mathlib.Core.Path.{◌≡◌, sym, ◌∙◌, ap}
 use mathlib.Core.List.{List}
 use borrow.Author.Tests.{leb-true, le-leb, lt-leb}
 use lib.ListN.{length}
@@ -18,14 +18,6 @@ use Rattle.text.proofs.fits.Goals as goal
 text_lines : (a : Answer) (listing cells : List ℕ) → length (lines a listing cells) ≡ 1 + (length listing / token_width + length cells / cell_width)
 text_lines a listing cells = length_lines a listing cells
 
-pub most_first-requires : goal.most_first-requires
-unfolding printed
-most_first-requires c = search rules
-
-pub longest_fits-requires : goal.longest_fits-requires
-unfolding printed
-longest_fits-requires c = search rules
-
 pub returns-then-longest_fits : goal.returns-then-longest_fits
 unfolding printed
 returns-then-longest_fits c =
@@ -35,18 +27,6 @@ returns-then-longest_fits c =
     let m = c.most_first in
     let t = leb-true (m.result + most_bytes_of a.listing.now a.cells.now) a.room (sym c.longest_fits.ensures ∙ c.if-longest_fits.true) in
     sym (le-leb ((length (printed c.args.answer c.args.listing.now c.args.cells.now))) a.room (omega (arith, t, m.ensures.0, bytes_within a.answer a.listing.now a.cells.now bl bc (search rules))))
-
-pub count-n-requires : goal.count-n-requires
-unfolding printed
-count-n-requires c = search rules
-
-pub loop-j-init : goal.loop-j-init
-unfolding printed
-loop-j-init c = (omega arith, refl, omega arith)
-
-pub slice_bounds-put_line-end : goal.slice_bounds-put_line-end
-unfolding printed
-slice_bounds-put_line-end c = sym c.loop-j.invariant.1
 
 pub put_line-k-requires : goal.put_line-k-requires
 unfolding printed
@@ -67,10 +47,6 @@ returns-then-left-k c =
     let k = c.put_line-k.ensures in
     let lt : l.j < length (lines c.args.answer c.args.listing.now c.args.cells.now) = omega (arith, text_lines c.args.answer c.args.listing.now c.args.cells.now, c.count-n.ensures) in
     sym (lt-leb ((length (printed c.args.answer c.args.listing.now c.args.cells.now))) c.args.room (omega (arith, made_within (lines c.args.answer c.args.listing.now c.args.cells.now) (l.j + 1), made_longer (lines c.args.answer c.args.listing.now c.args.cells.now) l.j lt, k.place, l.invariant.2)))
-
-pub loop-j-smaller : goal.loop-j-smaller
-unfolding printed
-loop-j-smaller c = search rules
 
 pub loop-j-preserved : goal.loop-j-preserved
 unfolding printed

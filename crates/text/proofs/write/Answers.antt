@@ -1,19 +1,10 @@
 -- `text::write` meets its contract. Assumes nothing.
-use borrow.Author.Rules.{rules}
 use mathlib.Core.List.{◌++◌}
 use Rattle.text.specs.Text.{answer_line, printed}
 use Rattle.text.specs.Lines.{text_of_lines, token_lines, lines_of_cells}
 use Rattle.text.proofs.Lines.{both, room_first, room_rest}
 use Rattle.text.proofs.Whole.{joined_append}
 use Rattle.text.proofs.write.Goals as goal
-
-pub put_answer-head-requires : goal.put_answer-head-requires
-unfolding printed
-put_answer-head-requires c =
-    let a = answer_line c.args.answer in
-    let ts = token_lines c.args.listing.now in
-    let cs = lines_of_cells c.args.cells.now in
-    room_first a (text_of_lines (ts ++ cs)) c.requires
 
 pub put_tokens-tokens-requires : goal.put_tokens-tokens-requires
 unfolding printed
@@ -32,10 +23,6 @@ put_cells-requires c =
     let cs = lines_of_cells c.args.cells.now in
     let r = rw (joined_append ts cs) at (room_rest (text_of_lines (ts ++ cs)) c.put_answer-head.ensures c.requires) in
     room_rest (text_of_lines cs) c.put_tokens-tokens.ensures r
-
-pub shape_of-out : goal.shape_of-out
-unfolding printed
-shape_of-out c = search rules
 
 pub returns : goal.returns
 unfolding printed

@@ -17,16 +17,16 @@ pub returns-then-not-is_loop_free : goal.returns-then-not-is_loop_free
 returns-then-not-is_loop_free c =
     let l = c.loop-i in
     let s = c.args.graph.now in
-    let x = c.instruction_at-r.result in
-    let e = in_graph s l.i (omega arith) x ∙ sym c.instruction_at-r.ensures in
+    let x = c.read-r.result in
+    let e = in_graph s l.i (omega arith) x ∙ sym c.read-r.ensures in
     rw c.at.ensures (sym (l.invariant.1 ∙ turn free (graph_of s) l.i x (omega (arith, length_graph s)) e (ap (λ (b : Bool). demand b NotLoopFree l.i) (sym c.is_loop_free.ensures ∙ c.if-not-is_loop_free.true))))
 
 pub loop-i-preserved : goal.loop-i-preserved
 loop-i-preserved c =
     let l = c.loop-i in
     let s = c.args.graph.now in
-    let x = c.instruction_at-r.result in
-    let e = in_graph s l.i (omega arith) x ∙ sym c.instruction_at-r.ensures in
+    let x = c.read-r.result in
+    let e = in_graph s l.i (omega arith) x ∙ sym c.read-r.ensures in
     (omega arith, l.invariant.1 ∙ turn free (graph_of s) l.i x (omega (arith, length_graph s)) e (ap (λ (b : Bool). demand b NotLoopFree l.i) (sym c.is_loop_free.ensures ∙ c.if-not-is_loop_free.false)))
 
 pub returns : goal.returns

@@ -1,37 +1,24 @@
 -- `bounds::count::outputs_of` meets its contract: there are two destinations at most. Assumes nothing.
-use Prim.Native.Nat.{ℕ, zero, suc, ◌≤◌, ◌<◌}
+use Prim.Native.Nat.{ℕ, zero, suc, min}
 use native.Mathlib.Omega.{arith}
-use mathlib.Core.Path.{◌≡◌, refl}
+use mathlib.Core.Path.{◌≡◌, refl, sym, ◌∙◌}
 use lib.ListN.{length}
-use borrow.Author.Rules.{rules}
-use borrow.Author.Tests.{eq-eqb, ne_eqb}
+use borrow.Author.Tests.{ne_eqb}
 use Rattle.record.specs.declared.instruction.Destination.{Destination}
 use Rattle.record.specs.GraphRecords.{in_use}
 use Rattle.rules.specs.Needs.{outputs_needed}
+use Rattle.check_fields.proofs.Operations.{switch_code, not_switch}
 use Rattle.bounds.proofs.count.outputs_of.Goals as goal
 
-two : (n : ℕ) (d e : Destination) → 2 ≤ n → 2 ≡ length (in_use n d e)
-two zero d e h = absurd (omega arith)
-two (suc zero) d e h = absurd (omega arith)
-two (suc (suc n)) d e h = refl
+few : (n : ℕ) (d e : Destination) → min n 2 ≡ length (in_use n d e)
+few zero d e = refl
+few (suc zero) d e = refl
+few (suc (suc n)) d e = omega arith
 
-fewer : (n : ℕ) (d e : Destination) → n < 2 → n ≡ length (in_use n d e)
-fewer zero d e h = refl
-fewer (suc zero) d e h = refl
-fewer (suc (suc n)) d e h = absurd (omega arith)
-
-pub returns-then-r-eq5 : goal.returns-then-r-eq5
+pub returns-in-Switch : goal.returns-in-Switch
 unfolding outputs_needed
-returns-then-r-eq5 c = (rw (eq-eqb _ _ c.if-r-eq5.true), omega arith)
+returns-in-Switch c = (rw (switch_code c.args.r.code (sym c.from.ensures ∙ c.in-Switch.is)), omega arith)
 
-pub returns-then-r-ge2 : goal.returns-then-r-ge2
+pub returns-in_default : goal.returns-in_default
 unfolding outputs_needed
-returns-then-r-ge2 c = (rw (ne_eqb _ _ c.if-r-eq5.false) (two _ _ _ c.if-r-ge2.true), omega arith)
-
-pub overflow_cast-result : goal.overflow_cast-result
-unfolding outputs_needed
-overflow_cast-result c = search rules
-
-pub returns : goal.returns
-unfolding outputs_needed
-returns c = (rw (ne_eqb _ _ c.if-r-eq5.false) (fewer _ _ _ c.if-r-ge2.false), omega arith)
+returns-in_default c = (rw (ne_eqb _ _ (not_switch c.args.r.code (λ e. c.in_default.not-Switch (c.from.ensures ∙ e)))) (c.min.ensures ∙ few c.args.r.fanout c.args.r.first c.args.r.second), omega (arith, c.min.ensures))

@@ -31,7 +31,7 @@ loop-i-preserved c =
     let own = at_graph s l.i (omega arith) in
     elim c.if-reached-i.branch [
       | then-reached-i w ↦
-          let r = own ∙ sym w.instruction_at-r.ensures in
+          let r = own ∙ sym w.read-r.ensures in
           let f = one_more (graph_of s) t firings_needed l.i w.firings_of-firings.result (rw (w.if-reached-i.true, r) (sym w.firings_of-firings.ensures.0)) in
           let o = one_more (graph_of s) t outputs_needed l.i w.outputs_of-outputs.result (rw (w.if-reached-i.true, r) (sym w.outputs_of-outputs.ensures.0)) in
           (omega arith, omega (arith, f), omega (arith, o), omega arith, omega arith)

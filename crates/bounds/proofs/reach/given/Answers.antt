@@ -17,14 +17,14 @@ pub loop-i-init : goal.loop-i-init
 loop-i-init c = (omega arith, no_ports)
 
 pub entry-at-requires : goal.entry-at-requires
-entry-at-requires c = rw c.token_at-t.ensures (c.requires c.loop-i.i (omega arith)).inside
+entry-at-requires c = rw c.read-t.ensures (c.requires c.loop-i.i (omega arith)).inside
 
 pub loop-i-preserved : goal.loop-i-preserved
 loop-i-preserved c =
     let l = c.loop-i in
     let s = c.args.inputs.now in
-    let t = c.token_at-t.result in
-    let told = c.token_at-t.ensures in
+    let t = c.read-t.result in
+    let told = c.read-t.ensures in
     let h : l.i < length s / token_width = omega arith in
     let good : GoodToken t = rw told (c.requires l.i h) in
     (omega arith, rw c.entry-at.ensures.0 (alike (mark l.invariant.1 t.tag.instruction t.port good.inside) (λ i p. rw (any_next (stands_at (root_of i) p) (inputs_of s) l.i t (omega (arith, length_tokens s)) (in_tokens s l.i h t ∙ sym told), stands t good i p))))

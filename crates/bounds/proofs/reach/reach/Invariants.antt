@@ -11,4 +11,4 @@ use Rattle.bounds.proofs.reach.reach.Given as goal
 
 abbrev pub invariant-loop : goal.invariant-loop
 invariant-loop l =
-    ((ts : List Token) → Ports (sent_by_inputs ts) l.initial.sent → ReachedSoFar ts (graph_of l.graph) l.sent l.reached × Within (after ts (graph_of l.graph) l.counter) (flag l.reached)) × (l.counter ≤ length l.graph / graph_width)
+    ((ts : List Token) → Ports (sent_by_inputs ts) l.fn.sent → ReachedSoFar ts (graph_of l.graph) l.so_far.sent l.so_far.reached × Within (after ts (graph_of l.graph) l.counter) (flag l.so_far.reached)) × (l.counter ≤ length l.graph / graph_width)

@@ -7,7 +7,7 @@ use Rattle.check_fields.proofs.arc.operands_at.Goals as goal
 pub returns-then-at-graph : goal.returns-then-at-graph
 returns-then-at-graph c =
     let a = c.args in
-    c.count_of.ensures ∙ sym (operands_in a.graph.now a.i (omega arith))
+    c.of.ensures ∙ sym (operands_in a.graph.now a.i (omega arith))
 
 pub returns-else-at-graph : goal.returns-else-at-graph
 returns-else-at-graph c = let a = c.args in sym (operands_past a.graph.now a.i (omega arith))

@@ -1,12 +1,12 @@
 -- `check_fields::constant::names_array` meets its contract. Assumes nothing.
-use borrow.Author.Tests.{eq-eqb, ne_eqb}
-use Rattle.record.specs.GraphRecords.{names_array}
+use mathlib.Core.Bool.{true, false}
+use mathlib.Core.List.{[], ◌∷◌}
+use borrow.Enum.Refused.{opened}
+use Rattle.check_fields.proofs.Operations.{names_among}
 use Rattle.check_fields.proofs.constant.names_array.Goals as goal
 
-pub returns-then-code-eq10 : goal.returns-then-code-eq10
-unfolding names_array
-returns-then-code-eq10 c = rw (eq-eqb _ _ c.if-code-eq10.true)
+pub returns-in-Fetch : goal.returns-in-Fetch
+returns-in-Fetch c = λ code e. names_among code true (9 ∷ 10 ∷ []) (rw e c.in-Fetch.in-Fetch-own.keys1) tt
 
-pub returns-else-code-eq10 : goal.returns-else-code-eq10
-unfolding names_array
-returns-else-code-eq10 c = rw (ne_eqb _ _ c.if-code-eq10.false)
+pub returns-in_default : goal.returns-in_default
+returns-in_default c = λ code e. names_among code false (0 ∷ 1 ∷ 2 ∷ 3 ∷ 4 ∷ 5 ∷ 6 ∷ 7 ∷ 8 ∷ 11 ∷ 12 ∷ 13 ∷ []) (rw e (opened c.in_default.in_default-own.keys2)) tt

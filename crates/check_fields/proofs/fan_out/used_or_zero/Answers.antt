@@ -1,12 +1,7 @@
 -- `check_fields::fan_out::used_or_zero` meets its contract. Assumes nothing.
 use borrow.Author.Tests.{eq-eqb, ne_eqb}
-use borrow.Author.Rules.{rules}
 use Rattle.rules.specs.Check.{is_zero}
 use Rattle.check_fields.proofs.fan_out.used_or_zero.Goals as goal
-
-pub returns-then-used : goal.returns-then-used
-unfolding is_zero
-returns-then-used c = search rules
 
 pub returns-then-d-eq0 : goal.returns-then-d-eq0
 unfolding is_zero

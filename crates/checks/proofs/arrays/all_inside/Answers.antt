@@ -18,9 +18,9 @@ returns-then-not-inside c =
     let l = c.loop-i in
     let a = c.args in
     let s = a.arrays.now in
-    let x = c.array_at.result in
+    let x = c.read.result in
     let h : l.i < length s / array_width = omega arith in
-    let e = get_d_rows array_width decode_array (length s / array_width) l.i s x h ∙ sym c.array_at.ensures in
+    let e = get_d_rows array_width decode_array (length s / array_width) l.i s x h ∙ sym c.read.ensures in
     let t = l.invariant.1 ∙ all_turn (inside_store a.cells) (arrays_of s) l.i x (omega (arith, length_rows array_width decode_array (length s / array_width) s)) e in
     sym (t ∙ rw (← c.inside.ensures, c.if-not-inside.true))
 
@@ -29,9 +29,9 @@ loop-i-preserved c =
     let l = c.loop-i in
     let a = c.args in
     let s = a.arrays.now in
-    let x = c.array_at.result in
+    let x = c.read.result in
     let h : l.i < length s / array_width = omega arith in
-    let e = get_d_rows array_width decode_array (length s / array_width) l.i s x h ∙ sym c.array_at.ensures in
+    let e = get_d_rows array_width decode_array (length s / array_width) l.i s x h ∙ sym c.read.ensures in
     let t = l.invariant.1 ∙ all_turn (inside_store a.cells) (arrays_of s) l.i x (omega (arith, length_rows array_width decode_array (length s / array_width) s)) e in
     (omega arith, t ∙ rw (← c.inside.ensures, c.if-not-inside.false))
 

@@ -4,7 +4,6 @@ use native.Mathlib.Omega.{arith}
 use mathlib.Core.Path.{sym, ◌∙◌}
 use lib.Dec.{eqb}
 use lib.ListN.{length}
-use borrow.Author.Rules.{rules}
 use borrow.Author.Tests.{leb-true}
 use Rattle.buffer.specs.Rows.{whole}
 use Rattle.buffer.proofs.Tables.{length_rows}
@@ -21,10 +20,6 @@ few c =
     let n = length c.args.arrays.now in
     let w = and_true_left (whole array_width 64 n) _ (sym c.good.ensures ∙ c.if-good.true) in
     leb-true (n / array_width) 64 (and_true_right (eqb (n % array_width) 0) _ w)
-
-pub good-requires : goal.good-requires
-unfolding check_arrays
-good-requires c = search rules
 
 pub names-requires : goal.names-requires
 unfolding check_arrays

@@ -23,9 +23,9 @@ returns-then-not-names_good c =
     let l = c.loop-i in
     let a = c.args in
     let g = a.graph.now in
-    let r = c.instruction_at.result in
+    let r = c.read.result in
     let h : l.i < length g / graph_width = omega arith in
-    let e = in_graph g l.i h r ∙ sym c.instruction_at.ensures in
+    let e = in_graph g l.i h r ∙ sym c.read.ensures in
     let good = sym c.names_good.ensures ∙ c.if-not-names_good.true in
     rw c.at.ensures (sym (l.invariant.1 ∙ turn (λ k r. demand (names_good a.n r) BadArray k) (graph_of g) l.i r (omega (arith, length_graph g)) e (ap (λ (b : Bool). demand b BadArray l.i) good)))
 
@@ -34,9 +34,9 @@ loop-i-preserved c =
     let l = c.loop-i in
     let a = c.args in
     let g = a.graph.now in
-    let r = c.instruction_at.result in
+    let r = c.read.result in
     let h : l.i < length g / graph_width = omega arith in
-    let e = in_graph g l.i h r ∙ sym c.instruction_at.ensures in
+    let e = in_graph g l.i h r ∙ sym c.read.ensures in
     let good = sym c.names_good.ensures ∙ c.if-not-names_good.false in
     (omega arith, l.invariant.1 ∙ turn (λ k r. demand (names_good a.n r) BadArray k) (graph_of g) l.i r (omega (arith, length_graph g)) e (ap (λ (b : Bool). demand b BadArray l.i) good))
 

@@ -1,15 +1,6 @@
 -- `checks::graph::check` meets its contract. Assumes nothing.
-use borrow.Author.Rules.{rules}
 use Rattle.rules.specs.Check.{check_graph}
 use Rattle.checks.proofs.graph.check.Goals as goal
-
-pub good_length-requires : goal.good_length-requires
-unfolding check_graph
-good_length-requires c = search rules
-
-pub records-requires : goal.records-requires
-unfolding check_graph
-records-requires c = search rules
 
 pub returns-then-good_length : goal.returns-then-good_length
 unfolding check_graph

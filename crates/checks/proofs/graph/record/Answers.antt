@@ -4,4 +4,4 @@ use Rattle.checks.proofs.graph.record.Goals as goal
 
 pub returns : goal.returns
 unfolding check_record
-returns c = rw (← c.count_of-known.ensures, ← c.good-fields.ensures, ← c.all_good-arcs.ensures, ← c.good-site.ensures _ c.requires.1) c.first_fault.ensures
+returns c = rw (← c.of-known.ensures, ← c.good-fields.ensures, ← c.all_good-arcs.ensures, ← c.good-site.ensures _ c.requires) c.first_fault.ensures

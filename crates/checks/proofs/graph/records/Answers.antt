@@ -13,14 +13,14 @@ use Rattle.check_fields.proofs.Sites.{no_sites, note_sites, length_at_site}
 use Rattle.checks.proofs.graph.records.Goals as goal
 
 pub loop-i-init : goal.loop-i-init
-loop-i-init c = (omega arith, refl, no_sites, refl)
+loop-i-init c = (omega arith, refl, rw c.none-sites.ensures no_sites, rw c.none-sites.ensures)
 
 pub record-requires : goal.record-requires
-record-requires c = (c.counts-counts.ensures, c.loop-i.invariant.2)
+record-requires c = c.loop-i.invariant.2
 
 pub returns-in_err-record : goal.returns-in_err-record
 returns-in_err-record c =
-    let at-instruction-at = c.instruction_at-r in
+    let at-instruction-at = c.read-r in
     let l = c.loop-i in
     let g = c.args.graph.now in
     let r = at-instruction-at.result in
@@ -31,7 +31,7 @@ returns-in_err-record c =
 
 pub loop-i-preserved : goal.loop-i-preserved
 loop-i-preserved c =
-    let at-instruction-at = c.instruction_at-r in
+    let at-instruction-at = c.read-r in
     let l = c.loop-i in
     let g = c.args.graph.now in
     let r = at-instruction-at.result in

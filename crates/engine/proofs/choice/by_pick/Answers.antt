@@ -21,14 +21,6 @@ returns-then-e-eq0 c =
     pick_none c.args.tables.now c.args.ledger.now c.args.used g right arrived table capacity count cs (picks_of c.args.picks.now) c.args.firings
     (sym (c.enabled_count-e.ensures ∙ ap length (matching_places c.requires.matching)) ∙ c.if-e-eq0.true) _ c.ending.ensures
 
-pub pick_at-requires : goal.pick_at-requires
-unfolding picks_of
-pick_at-requires c = search rules
-
-pub number_of-number-requires : goal.number_of-number-requires
-unfolding picks_of
-number_of-number-requires c = search rules
-
 pub enabled_at-requires : goal.enabled_at-requires
 unfolding picks_of
 enabled_at-requires c =

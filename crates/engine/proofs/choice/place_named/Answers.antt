@@ -15,22 +15,22 @@ use Rattle.engine.proofs.choice.place_named.Goals as goal
 
 pub enabled_at-first-requires : goal.enabled_at-first-requires
 enabled_at-first-requires c =
-    let some : c.is_empty.result ≡ false → ¬ (length (places c.args.flags.now) ≡ 0) = λ e. eqb-false _ 0 (sym c.is_empty.ensures.value ∙ e) in
+    let some : c.is_empty.result ≡ false → ¬ (length (places c.args.store.now.flags) ≡ 0) = λ e. eqb-false _ 0 (sym c.is_empty.ensures.value ∙ e) in
     omega (arith, some (c.if-not-is_empty.true))
 
-pub token_at-t-requires : goal.token_at-t-requires
-token_at-t-requires c =
-    let some : c.is_empty.result ≡ false → ¬ (length (places c.args.flags.now) ≡ 0) = λ e. eqb-false _ 0 (sym c.is_empty.ensures.value ∙ e) in
-    let enabled : ¬ (length (places c.args.flags.now) ≡ 0) = some (c.if-not-is_empty.true) in
+pub read-t-requires : goal.read-t-requires
+read-t-requires c =
+    let some : c.is_empty.result ≡ false → ¬ (length (places c.args.store.now.flags) ≡ 0) = λ e. eqb-false _ 0 (sym c.is_empty.ensures.value ∙ e) in
+    let enabled : ¬ (length (places c.args.store.now.flags) ≡ 0) = some (c.if-not-is_empty.true) in
     let there : c.enabled_at-first.result < c.args.used = first_there c.requires enabled c.enabled_at-first.result c.enabled_at-first.ensures.0 in
     omega (arith, there, matching_room c.requires)
 
 pub returns-then-eq : goal.returns-then-eq
 returns-then-eq c =
-    let some : c.is_empty.result ≡ false → ¬ (length (places c.args.flags.now) ≡ 0) = λ e. eqb-false _ 0 (sym c.is_empty.ensures.value ∙ e) in
-    let enabled : ¬ (length (places c.args.flags.now) ≡ 0) = some (c.if-not-is_empty.true) in
+    let some : c.is_empty.result ≡ false → ¬ (length (places c.args.store.now.flags) ≡ 0) = λ e. eqb-false _ 0 (sym c.is_empty.ensures.value ∙ e) in
+    let enabled : ¬ (length (places c.args.store.now.flags) ≡ 0) = some (c.if-not-is_empty.true) in
     let there : c.enabled_at-first.result < c.args.used = first_there c.requires enabled c.enabled_at-first.result c.enabled_at-first.ensures.0 in
-    let same = ap (λ (t : Token). same_tag t.tag c.args.tag) (sym c.token_at-t.ensures) ∙ sym (c.eq.ensures ∙ equal_tags c.token_at-t.result.tag c.args.tag) ∙ c.if-eq.true in
+    let same = ap (λ (t : Token). same_tag t.tag c.args.tag) (sym c.read-t.ensures) ∙ sym (c.eq.ensures ∙ equal_tags c.read-t.result.tag c.args.tag) ∙ c.if-eq.true in
     (first_named c.requires (enabled) c.enabled_at-first.result c.enabled_at-first.ensures.0 c.args.tag same, there)
 
 pub enabled_by_tag-requires : goal.enabled_by_tag-requires

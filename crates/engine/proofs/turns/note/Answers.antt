@@ -5,21 +5,9 @@ use borrow.Author.Tests.{lt-ltb, le-ltb}
 use Rattle.engine.specs.Turns.{log_noted}
 use Rattle.engine.proofs.turns.note.Goals as goal
 
-pub token_at-t-requires : goal.token_at-t-requires
-unfolding log_noted
-token_at-t-requires c = search rules
-
-pub put_tag-requires : goal.put_tag-requires
-unfolding log_noted
-put_tag-requires c = search rules
-
-pub shape_of-log : goal.shape_of-log
-unfolding log_noted
-shape_of-log c = search rules
-
 pub returns-then-i-log : goal.returns-then-i-log
 unfolding log_noted
-returns-then-i-log c = c.put_tag.ensures ∙ rw (lt-ltb _ _ c.if-i-log.true, c.token_at-t.ensures)
+returns-then-i-log c = c.put_tag.ensures ∙ rw (lt-ltb _ _ c.if-i-log.true, c.read-t.ensures)
 
 pub returns-else-i-log : goal.returns-else-i-log
 unfolding log_noted

@@ -1,17 +1,39 @@
 -- `expression::check::good_term` meets its contract. Assumes nothing.
 use native.Mathlib.Omega.{arith}
-use borrow.Author.Rules.{rules}
-use borrow.Author.Tests.{eq-eqb, ne_eqb, le-leb, lt-leb, lt-ltb, le-ltb}
-use Rattle.rules.specs.Expression.{good_term, good_operation}
+use mathlib.Core.Path.{◌≡◌, refl, sym, ◌∙◌}
+use mathlib.Core.Bool.{Bool, true, false, not, ◌&&◌}
+use borrow.Author.Tests.{eq-eqb, ne_eqb, lt-ltb, le-ltb}
+use lib.Dec.{eqb, leb, ltb}
+use Prim.Native.Nat.{ℕ}
+use mathlib.Core.List.{List}
+use Rattle.rules.specs.Check.{any}
+use Rattle.std.specs.Prelude.{Option, Some, None, is_some}
+use Rattle.record.specs.declared.operation.Arithmetic.{Arithmetic}
+use Rattle.record.specs.declared.term.Term.{Term}
+use Rattle.machine.proofs.View.{false_true}
+use Rattle.rules.specs.Expression.{is_variable, names, good_term, good_operation}
+use Rattle.expression.specs.Tables.{OperationOf}
 use Rattle.expression.proofs.check.good_term.Goals as goal
 
-pub overflow_cast-left : goal.overflow_cast-left
-unfolding good_term good_operation
-overflow_cast-left c = search rules
+-- what `operation_of` says of the kind
+an_operation : (t : Term) (o : Option Arithmetic) → OperationOf t o → is_some o ≡ true → (leb 16 t.kind ≡ true) × (leb t.kind 23 ≡ true)
+an_operation t (Some o) h e = (h.0, h.1)
+an_operation t None h e = false_true e
 
-pub overflow_cast-right : goal.overflow_cast-right
+no_operation : (t : Term) (o : Option Arithmetic) → OperationOf t o → is_some o ≡ false → (rest : Bool) → (leb 16 t.kind && (leb t.kind 23 && rest)) ≡ false
+no_operation t (Some o) h e rest = false_true (sym e)
+no_operation t None h e rest = go (leb 16 t.kind) (leb t.kind 23) h
+  where
+    go : (a b : Bool) → (a && b) ≡ false → (a && (b && rest)) ≡ false
+    go true true g = false_true (sym g)
+    go true false g = refl
+    go false b g = refl
+
+-- a record with an operation's kind is good where its names are
+operation_good : (earlier : List Term) (i : ℕ) (t : Term) (o : Option Arithmetic) → t.zeros ≡ 0 → is_variable t ≡ false → OperationOf t o → is_some o ≡ true
+    → good_term earlier i t ≡ (ltb t.left i && (ltb t.right i && (not (eqb t.left t.right) && (not (any (names t.left) earlier) && not (any (names t.right) earlier)))))
 unfolding good_term good_operation
-overflow_cast-right c = search rules
+operation_good earlier i t o z v h e = let k = an_operation t o h e in rw (eq-eqb t.zeros 0 z, v, k.0, k.1)
 
 pub returns-then-t-ne0 : goal.returns-then-t-ne0
 unfolding good_term good_operation
@@ -21,111 +43,47 @@ pub returns-then-left-eq0 : goal.returns-then-left-eq0
 unfolding good_term good_operation
 returns-then-left-eq0 c earlier m =
     let a = c.args in
-    rw (eq-eqb a.t.zeros 0 c.if-t-ne0.false, eq-eqb a.t.kind 0 c.if-t-eq0.true, eq-eqb a.t.left 0 c.if-left-eq0.true)
+    rw (eq-eqb a.t.zeros 0 c.if-t-ne0.false, ← c.is_variable.ensures, c.if-is_variable.true, eq-eqb a.t.left 0 c.if-left-eq0.true)
 
 pub returns-else-left-eq0 : goal.returns-else-left-eq0
 unfolding good_term good_operation
 returns-else-left-eq0 c earlier m =
     let a = c.args in
-    rw (eq-eqb a.t.zeros 0 c.if-t-ne0.false, eq-eqb a.t.kind 0 c.if-t-eq0.true, ne_eqb a.t.left 0 c.if-left-eq0.false)
-
-pub bounds-named-left : goal.bounds-named-left
-unfolding good_term good_operation
-bounds-named-left c = search rules
-
-pub bounds-named-right : goal.bounds-named-right
-unfolding good_term good_operation
-bounds-named-right c = search rules
+    rw (eq-eqb a.t.zeros 0 c.if-t-ne0.false, ← c.is_variable.ensures, c.if-is_variable.true, ne_eqb a.t.left 0 c.if-left-eq0.false)
 
 pub returns-then-not-named-left : goal.returns-then-not-named-left
-unfolding good_term good_operation
 returns-then-not-named-left c earlier m =
     let a = c.args in
-    rw (
-      eq-eqb a.t.zeros 0 c.if-t-ne0.false,
-      ne_eqb a.t.kind 0 c.if-t-eq0.false,
-      le-leb 16 a.t.kind c.if-t-ge16.true,
-      le-leb a.t.kind 23 c.if-t-le23.true,
-      lt-ltb a.t.left a.i c.if-left-i.true,
-      lt-ltb a.t.right a.i c.if-right-i.true,
-      ne_eqb a.t.left a.t.right c.if-left-right.true,
-      ← m.says a.t.left (let l = c.if-left-i.true in let h = c.requires in omega arith),
-      c.if-not-named-left.true,
-      ← m.says a.t.right (let l = c.if-right-i.true in let h = c.requires in omega arith),
-    )
+    let good = operation_good earlier a.i a.t c.operation_of.result c.if-t-ne0.false (sym c.is_variable.ensures ∙ c.if-is_variable.false) c.operation_of.ensures (sym c.is_some.ensures ∙ c.if-is_some.true) in
+    rw (good, lt-ltb a.t.left a.i c.if-left-i.true, lt-ltb a.t.right a.i c.if-right-i.true, ne_eqb a.t.left a.t.right c.if-left-right.true, ← m.says a.t.left (let l = c.if-left-i.true in let h = c.requires in omega arith), c.if-not-named-left.true, ← m.says a.t.right (let l = c.if-right-i.true in let h = c.requires in omega arith))
 
 pub returns-else-not-named-left : goal.returns-else-not-named-left
-unfolding good_term good_operation
 returns-else-not-named-left c earlier m =
     let a = c.args in
-    rw (
-      eq-eqb a.t.zeros 0 c.if-t-ne0.false,
-      ne_eqb a.t.kind 0 c.if-t-eq0.false,
-      le-leb 16 a.t.kind c.if-t-ge16.true,
-      le-leb a.t.kind 23 c.if-t-le23.true,
-      lt-ltb a.t.left a.i c.if-left-i.true,
-      lt-ltb a.t.right a.i c.if-right-i.true,
-      ne_eqb a.t.left a.t.right c.if-left-right.true,
-      ← m.says a.t.left (let l = c.if-left-i.true in let h = c.requires in omega arith),
-      c.if-not-named-left.false,
-    )
+    let good = operation_good earlier a.i a.t c.operation_of.result c.if-t-ne0.false (sym c.is_variable.ensures ∙ c.if-is_variable.false) c.operation_of.ensures (sym c.is_some.ensures ∙ c.if-is_some.true) in
+    rw (good, lt-ltb a.t.left a.i c.if-left-i.true, lt-ltb a.t.right a.i c.if-right-i.true, ne_eqb a.t.left a.t.right c.if-left-right.true, ← m.says a.t.left (let l = c.if-left-i.true in let h = c.requires in omega arith), c.if-not-named-left.false)
 
 pub returns-else-left-right : goal.returns-else-left-right
-unfolding good_term good_operation
 returns-else-left-right c earlier m =
     let a = c.args in
-    rw (
-      eq-eqb a.t.zeros 0 c.if-t-ne0.false,
-      ne_eqb a.t.kind 0 c.if-t-eq0.false,
-      le-leb 16 a.t.kind c.if-t-ge16.true,
-      le-leb a.t.kind 23 c.if-t-le23.true,
-      lt-ltb a.t.left a.i c.if-left-i.true,
-      lt-ltb a.t.right a.i c.if-right-i.true,
-      eq-eqb a.t.left a.t.right c.if-left-right.false,
-    )
+    let good = operation_good earlier a.i a.t c.operation_of.result c.if-t-ne0.false (sym c.is_variable.ensures ∙ c.if-is_variable.false) c.operation_of.ensures (sym c.is_some.ensures ∙ c.if-is_some.true) in
+    rw (good, lt-ltb a.t.left a.i c.if-left-i.true, lt-ltb a.t.right a.i c.if-right-i.true, eq-eqb a.t.left a.t.right c.if-left-right.false)
 
 pub returns-else-right-i : goal.returns-else-right-i
-unfolding good_term good_operation
 returns-else-right-i c earlier m =
     let a = c.args in
-    rw (
-      eq-eqb a.t.zeros 0 c.if-t-ne0.false,
-      ne_eqb a.t.kind 0 c.if-t-eq0.false,
-      le-leb 16 a.t.kind c.if-t-ge16.true,
-      le-leb a.t.kind 23 c.if-t-le23.true,
-      lt-ltb a.t.left a.i c.if-left-i.true,
-      le-ltb a.t.right a.i c.if-right-i.false,
-    )
+    let good = operation_good earlier a.i a.t c.operation_of.result c.if-t-ne0.false (sym c.is_variable.ensures ∙ c.if-is_variable.false) c.operation_of.ensures (sym c.is_some.ensures ∙ c.if-is_some.true) in
+    rw (good, lt-ltb a.t.left a.i c.if-left-i.true, le-ltb a.t.right a.i c.if-right-i.false)
 
 pub returns-else-left-i : goal.returns-else-left-i
-unfolding good_term good_operation
 returns-else-left-i c earlier m =
     let a = c.args in
-    rw (
-      eq-eqb a.t.zeros 0 c.if-t-ne0.false,
-      ne_eqb a.t.kind 0 c.if-t-eq0.false,
-      le-leb 16 a.t.kind c.if-t-ge16.true,
-      le-leb a.t.kind 23 c.if-t-le23.true,
-      le-ltb a.t.left a.i c.if-left-i.false,
-    )
+    let good = operation_good earlier a.i a.t c.operation_of.result c.if-t-ne0.false (sym c.is_variable.ensures ∙ c.if-is_variable.false) c.operation_of.ensures (sym c.is_some.ensures ∙ c.if-is_some.true) in
+    rw (good, le-ltb a.t.left a.i c.if-left-i.false)
 
-pub returns-else-t-le23 : goal.returns-else-t-le23
+pub returns-else-is_some : goal.returns-else-is_some
 unfolding good_term good_operation
-returns-else-t-le23 c earlier m =
+returns-else-is_some c earlier m =
     let a = c.args in
-    rw (
-      eq-eqb a.t.zeros 0 c.if-t-ne0.false,
-      ne_eqb a.t.kind 0 c.if-t-eq0.false,
-      le-leb 16 a.t.kind c.if-t-ge16.true,
-      lt-leb a.t.kind 23 c.if-t-le23.false,
-    )
-
-pub returns-else-t-ge16 : goal.returns-else-t-ge16
-unfolding good_term good_operation
-returns-else-t-ge16 c earlier m =
-    let a = c.args in
-    rw (
-      eq-eqb a.t.zeros 0 c.if-t-ne0.false,
-      ne_eqb a.t.kind 0 c.if-t-eq0.false,
-      lt-leb 16 a.t.kind c.if-t-ge16.false,
-    )
+    rw (eq-eqb a.t.zeros 0 c.if-t-ne0.false, ← c.is_variable.ensures, c.if-is_variable.false)
+    (c.if-is_some.false ∙ sym (no_operation a.t c.operation_of.result c.operation_of.ensures (sym c.is_some.ensures ∙ c.if-is_some.false) _))

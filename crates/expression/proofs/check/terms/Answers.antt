@@ -47,7 +47,7 @@ pub returns-then-not-good_term : goal.returns-then-not-good_term
 returns-then-not-good_term c =
     let l = c.loop-i in
     let s = c.args.expression.now in
-    let g = c.good_term.ensures (take l.i (expression_of s)) l.invariant.2 in record { value = rw c.at.ensures (sym (l.invariant.1 ∙ in_turn_lem s l.i (omega arith) _ c.term_at-t.ensures false (sym g ∙ c.if-not-good_term.true))); marked_named = not_passed }
+    let g = c.good_term.ensures (take l.i (expression_of s)) l.invariant.2 in record { value = rw c.at.ensures (sym (l.invariant.1 ∙ in_turn_lem s l.i (omega arith) _ c.read-t.ensures false (sym g ∙ c.if-not-good_term.true))); marked_named = not_passed }
 
 pub mark-requires : goal.mark-requires
 mark-requires c =
@@ -55,11 +55,11 @@ mark-requires c =
     let s = c.args.expression.now in
     let few = few_terms (length s) c.requires.0 in
     let g = c.good_term.ensures (take l.i (expression_of s)) l.invariant.2 in
-    names_inside (take l.i (expression_of s)) l.i c.term_at-t.result (omega arith) (sym g ∙ c.if-not-good_term.false)
+    names_inside (take l.i (expression_of s)) l.i c.read-t.result (omega arith) (sym g ∙ c.if-not-good_term.false)
 
 pub loop-i-preserved : goal.loop-i-preserved
 loop-i-preserved c =
-    let at-term-at = c.term_at-t in
+    let at-term-at = c.read-t in
     let s = c.args.expression.now in
     let l = c.loop-i in
     let x = at-term-at.result in

@@ -1,10 +1,10 @@
 -- `expression::numbers::number_of` meets its contract. Assumes nothing.
 use native.Mathlib.Omega.{arith}
-use borrow.Author.Tests.{eq-eqb, ne_eqb}
+use mathlib.Core.Path.{sym, ◌∙◌}
 use Rattle.expression.proofs.numbers.number_of.Goals as goal
 
-pub returns-then-t-eq0 : goal.returns-then-t-eq0
-returns-then-t-eq0 c = (rw (eq-eqb c.args.t.kind 0 c.if-t-eq0.true), omega arith)
+pub returns-then-is_variable : goal.returns-then-is_variable
+returns-then-is_variable c = (rw (sym c.is_variable.ensures ∙ c.if-is_variable.true), omega arith)
 
-pub returns-else-t-eq0 : goal.returns-else-t-eq0
-returns-else-t-eq0 c = (rw (ne_eqb c.args.t.kind 0 c.if-t-eq0.false), omega arith)
+pub returns-else-is_variable : goal.returns-else-is_variable
+returns-else-is_variable c = (rw (sym c.is_variable.ensures ∙ c.if-is_variable.false), omega arith)

@@ -20,8 +20,8 @@ pub loop-i-preserved : goal.loop-i-preserved
 loop-i-preserved c =
     let s = c.args.expression.now in
     let l = c.loop-i in
-    let x = c.term_at.result in
-    let told = c.term_at.ensures in
+    let x = c.read.result in
+    let told = c.read.ensures in
     let v = c.variable_of-n.ensures in
     let low : l.i < length s / term_width = omega arith in
     let next = variables_next (expression_of s) l.i x (omega (arith, length_terms s)) (in_terms s l.i low x ∙ sym told) in

@@ -1,10 +1,9 @@
 -- `expression::put::put`, which calls itself, meets its contract. Assumes nothing.
 use Prim.Native.Nat.{ℕ, ◌<◌}
 use native.Mathlib.Omega.{arith}
-use mathlib.Core.Path.{ap, ◌∙◌}
+use mathlib.Core.Path.{ap, ◌∙◌, sym}
 use mathlib.Core.List.{List}
 use lib.ListN.{length}
-use borrow.Author.Tests.{eq-eqb, ne_eqb}
 use Rattle.record.specs.ExpressionRecords.{expression_of}
 use Rattle.rules.specs.Expression.{sending}
 use Rattle.expression.specs.Tables.{NumberedRecords}
@@ -15,44 +14,44 @@ use Rattle.expression.proofs.put.+put.Goals as goal
 few : (s numbers : List ℕ) → NumberedRecords s numbers → (i : ℕ) → i < length (expression_of s) → i < 100
 few s numbers h i low = let most = (passed_terms s h.passed).1 in omega (arith, length_terms s)
 
-pub term_at-t-requires : goal.term_at-t-requires
-term_at-t-requires t c = let low = c.requires.1 in omega (arith, length_terms c.args.expression.now)
+pub read-t-requires : goal.read-t-requires
+read-t-requires t c = let low = c.requires.1 in omega (arith, length_terms c.args.expression.now)
 
 pub bounds-numbers-i : goal.bounds-numbers-i
 bounds-numbers-i t c = few c.args.expression.now c.args.numbers.now c.requires.0 c.args.i c.requires.1
 
-pub put_instruction-requires : goal.put_instruction-requires
-put_instruction-requires t c =
-    let n = number_at c.requires.0 c.args.i c.requires.1 c.term_at-t.result c.term_at-t.ensures in
+pub write-requires : goal.write-requires
+write-requires t c =
+    let n = number_at c.requires.0 c.args.i c.requires.1 c.read-t.result c.read-t.ensures in
     let room = c.requires.2 in
     omega arith
 
-pub returns-then-t-eq0 : goal.returns-then-t-eq0
-returns-then-t-eq0 t c g rest size is =
+pub returns-then-is_variable : goal.returns-then-is_variable
+returns-then-is_variable t c g rest size is =
     let a = c.args in
-    let x = c.term_at-t.result in
-    let told = c.term_at-t.ensures in
+    let x = c.read-t.result in
+    let told = c.read-t.ensures in
     let own =
-    puts_own c.requires.0 a.i c.requires.1 x told a.to g size rest a.graph.now c.put_instruction.new.graph is
-    c.instruction_of-r.result (c.instruction_of-r.ensures ∙ ap (λ (k : ℕ). sending k a.to) c.code_of.ensures) c.put_instruction.ensures.0 in
-    puts_variable c.requires.0 a.i c.requires.1 x told a.to g size rest a.graph.now _ is (eq-eqb _ 0 c.if-t-eq0.true) own
+    puts_own c.requires.0 a.i c.requires.1 x told a.to g size rest a.graph.now c.write.new.buf is
+    c.sending-r.result (c.sending-r.ensures ∙ ap (λ (k : ℕ). sending k a.to) c.code_of.ensures) c.write.ensures.0 in
+    puts_variable c.requires.0 a.i c.requires.1 x told a.to g size rest a.graph.now _ is (sym c.is_variable.ensures ∙ c.if-is_variable.true) own
 
 pub put-requires : goal.put-requires
 put-requires t c =
-    let before = (names_before c.requires.0 c.args.i c.requires.1 c.term_at-t.result c.term_at-t.ensures (ne_eqb c.term_at-t.result.kind 0 c.if-t-eq0.false)).0 in
+    let before = (names_before c.requires.0 c.args.i c.requires.1 c.read-t.result c.read-t.ensures (sym c.is_variable.ensures ∙ c.if-is_variable.false)).0 in
     let i = c.decreases in
     let low = c.requires.1 in
     let room = c.requires.2 in
-    let same = c.put_instruction.auto.graph in
+    let same = c.write.auto.buf in
     (omega arith, (c.requires.0, omega arith, omega arith))
 
 pub put-requires-2 : goal.put-requires-2
 put-requires-2 t c =
-    let before = (names_before c.requires.0 c.args.i c.requires.1 c.term_at-t.result c.term_at-t.ensures (ne_eqb c.term_at-t.result.kind 0 c.if-t-eq0.false)).1 in
+    let before = (names_before c.requires.0 c.args.i c.requires.1 c.read-t.result c.read-t.ensures (sym c.is_variable.ensures ∙ c.if-is_variable.false)).1 in
     let i = c.decreases in
     let low = c.requires.1 in
     let room = c.requires.2 in
-    let same = c.put_instruction.auto.graph in
+    let same = c.write.auto.buf in
     let same2 = c.put.auto.graph in
     (omega arith, (c.requires.0, omega arith, omega arith))
 
@@ -61,12 +60,12 @@ returns t c g rest size is =
     let a = c.args in
     let h = c.requires.0 in
     let low = c.requires.1 in
-    let x = c.term_at-t.result in
-    let told = c.term_at-t.ensures in
-    let v = ne_eqb x.kind 0 c.if-t-eq0.false in
+    let x = c.read-t.result in
+    let told = c.read-t.ensures in
+    let v = sym c.is_variable.ensures ∙ c.if-is_variable.false in
     let own =
-    puts_own h a.i low x told a.to g size rest a.graph.now c.put_instruction.new.graph is
-    c.instruction_of-r.result (c.instruction_of-r.ensures ∙ ap (λ (k : ℕ). sending k a.to) c.code_of.ensures) c.put_instruction.ensures.0 in
+    puts_own h a.i low x told a.to g size rest a.graph.now c.write.new.buf is
+    c.sending-r.result (c.sending-r.ensures ∙ ap (λ (k : ℕ). sending k a.to) c.code_of.ensures) c.write.ensures.0 in
     let lefts = c.put.ensures _ rest (length_own h a.i low x told a.to g size rest a.graph.now a.graph.now is) own in
     let rights = c.put-2.ensures _ rest (length_lefts h a.i low x told a.to g size rest a.graph.now a.graph.now is) lefts in
     puts_operation h a.i low x told a.to g size rest a.graph.now c.put-2.new.graph is v rights

@@ -12,8 +12,8 @@ use Rattle.expression.proofs.put.write.Goals as goal
 pub numbers-numbers-requires : goal.numbers-numbers-requires
 numbers-numbers-requires c = (passed_made c.args.expression.now (length c.args.graph.now) c.requires).0
 
-pub put_instruction-requires : goal.put_instruction-requires
-put_instruction-requires c =
+pub write-requires : goal.write-requires
+write-requires c =
     let s = c.args.expression.now in
     let room = (passed_made s (length c.args.graph.now) c.requires).1 in
     omega (arith, length_terms s)
@@ -35,11 +35,11 @@ put-requires c =
     let s = c.args.expression.now in
     let (ok, room) = passed_made s (length c.args.graph.now) c.requires in
     let some = (passed_terms s ok).0 in
-    let same = c.put_instruction.auto.graph in
+    let same = c.write.auto.buf in
     (c.numbers-numbers.ensures, omega (arith, length_terms s), omega arith)
 
 pub shape_of-graph : goal.shape_of-graph
-shape_of-graph c = c.put.auto.graph ∙ c.put_instruction.auto.graph
+shape_of-graph c = c.put.auto.graph ∙ c.write.auto.buf
 
 pub returns : goal.returns
 returns c =
@@ -47,6 +47,6 @@ returns c =
     let g = c.args.graph.now in
     let (ok, room) = passed_made s (length g) c.requires in
     let bytes : Bytes g = λ k. (c.slice_known-1.given k).fits in
-    let outs = out_put s ok g bytes room c.put_instruction.new.graph _ (sym (length_terms s)) c.instruction_of.result c.instruction_of.ensures c.put_instruction.ensures.0 in
+    let outs = out_put s ok g bytes room c.write.new.buf _ (sym (length_terms s)) c.out.result c.out.ensures c.write.ensures.0 in
     whole_graph s ok g bytes room c.put.new.graph _ (sym (length_terms s))
     (c.put.ensures _ (behind s ok g bytes room) (length-set (lent_graph s ok g bytes room) (out_for (expression_of s)) out ∙ length_lent s ok g bytes room) outs)

@@ -3,7 +3,6 @@ use Prim.Native.Nat.{◌<◌}
 use mathlib.Core.Path.{◌≡◌, refl, sym, ◌∙◌}
 use mathlib.Core.Bool.{Bool, true, false, ◌&&◌}
 use lib.Dec.{eqb}
-use borrow.Author.Rules.{rules}
 use borrow.Author.Tests.{lt-ltb, le-ltb, eq-eqb, ne_eqb}
 use Rattle.record.specs.TokensAndTags.{decode_token, tokens, same_tag}
 use Rattle.buffer.proofs.Tables.{length_rows}
@@ -26,14 +25,6 @@ equal_keys : (a b : Key) → (((eqb a.tag.path.low b.tag.path.low && eqb a.tag.p
 unfolding same_keys
 equal_keys a b = rw (equal_tags a.tag b.tag) (turned (same_tag a.tag b.tag) (eqb a.port b.port))
 
-pub overflow_cast-outputs : goal.overflow_cast-outputs
-unfolding admitted_of any_taken_of is_taken
-overflow_cast-outputs c = search rules
-
-pub overflow_add-used : goal.overflow_add-used
-unfolding admitted_of any_taken_of is_taken
-overflow_add-used c = search rules
-
 pub returns-then-ledger-used : goal.returns-then-ledger-used
 unfolding admitted_of any_taken_of is_taken
 returns-then-ledger-used c =
@@ -51,14 +42,6 @@ unfolding admitted_of any_taken_of is_taken
 seek-requires c =
     let o = c.args.outputs in
     (c.requires.0, low_first o.first o.second o.count c.if-outputs-eq0.false c.requires.3)
-
-pub enum_known-slot : goal.enum_known-slot
-unfolding admitted_of any_taken_of is_taken
-enum_known-slot c = search rules
-
-pub enum_told-1 : goal.enum_told-1
-unfolding admitted_of any_taken_of is_taken
-enum_told-1 c = search rules
 
 pub returns-in_default : goal.returns-in_default
 unfolding admitted_of any_taken_of is_taken
@@ -87,14 +70,6 @@ seek-requires-2 c =
     let o = c.args.outputs in
     (c.requires.0, low_second o.first o.second o.count c.if-outputs-eq0.false c.requires.3 c.if-outputs-eq1.false)
 
-pub enum_known-next : goal.enum_known-next
-unfolding admitted_of any_taken_of is_taken
-enum_known-next c = search rules
-
-pub enum_told-in_default-seek : goal.enum_told-in_default-seek
-unfolding admitted_of any_taken_of is_taken
-enum_told-in_default-seek c = search rules
-
 pub returns-in_default-seek : goal.returns-in_default-seek
 unfolding admitted_of any_taken_of is_taken
 returns-in_default-seek c =
@@ -102,10 +77,6 @@ returns-in_default-seek c =
     let o = rw c.in-Some.is at c.seek.ensures in
     let taken = rw c.in_default-seek.is at c.seek-2.ensures in
     rw (length_rows token_width decode_token a.used a.ledger.now, le-ltb _ _ c.if-ledger-used.false, ne_eqb _ _ c.if-outputs-eq0.false, o.free, ne_eqb _ _ c.if-outputs-eq1.false, sym (c.eq.ensures ∙ equal_keys c.args.outputs.first c.args.outputs.second) ∙ c.if-eq.false, taken)
-
-pub beside-requires : goal.beside-requires
-unfolding admitted_of any_taken_of is_taken
-beside-requires c = search rules
 
 pub returns : goal.returns
 unfolding admitted_of any_taken_of is_taken

@@ -14,7 +14,6 @@ use Rattle.record.specs.contracts.operation.Operation.{the_type}
 use Rattle.fire_effect.specs.declared.operate.Action.TheVariants.{Send}
 use Rattle.fire_effect.specs.Effects.{operated_of}
 use borrow.Enum.Refused.{opened}
-use borrow.Author.Rules.{rules}
 use Rattle.fire_effect.proofs.operate.operate.Goals as goal
 
 -- the operations that none of the other arms names, by their numbers as variants: they give the value on port 0
@@ -37,50 +36,6 @@ moves Operations.Store table k cells a b h = absurd (miss rest 10 tt h)
 moves (Operations.OnTwo o) table k cells a b h = absurd (miss rest 11 tt h)
 moves (Operations.OnConstant o) table k cells a b h = absurd (miss rest 12 tt h)
 moves Operations.Unknown table k cells a b h = refl
-
-pub enum_told-1 : goal.enum_told-1
-unfolding operated_of
-enum_told-1 c = search rules
-
-pub enum_told-in-Fetch : goal.enum_told-in-Fetch
-unfolding operated_of
-enum_told-in-Fetch c = search rules
-
-pub fetch-requires : goal.fetch-requires
-unfolding operated_of
-fetch-requires c = search rules
-
-pub enum_told-in-Store : goal.enum_told-in-Store
-unfolding operated_of
-enum_told-in-Store c = search rules
-
-pub store-requires : goal.store-requires
-unfolding operated_of
-store-requires c = search rules
-
-pub enum_known-o : goal.enum_known-o
-unfolding operated_of
-enum_known-o c = search rules
-
-pub compute-requires : goal.compute-requires
-unfolding operated_of
-compute-requires c = search rules
-
-pub computed-requires : goal.computed-requires
-unfolding operated_of
-computed-requires c = search rules
-
-pub enum_known-o-in-OnConstant-1 : goal.enum_known-o-in-OnConstant-1
-unfolding operated_of
-enum_known-o-in-OnConstant-1 c = search rules
-
-pub compute-requires-in-OnConstant : goal.compute-requires-in-OnConstant
-unfolding operated_of
-compute-requires-in-OnConstant c = search rules
-
-pub computed-requires-in-OnConstant : goal.computed-requires-in-OnConstant
-unfolding operated_of
-computed-requires-in-OnConstant c = search rules
 
 pub returns-in-Const : goal.returns-in-Const
 unfolding operated_of

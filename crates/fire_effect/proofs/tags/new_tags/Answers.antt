@@ -16,7 +16,6 @@ use Rattle.machine.specs.Machine.{send}
 use Rattle.rules.specs.InstructionSet.{all_under}
 use Rattle.fire_effect.proofs.Does.{made_as}
 use Rattle.fire_effect.specs.Effects.{new_tags_of}
-use borrow.Author.Rules.{rules}
 use Rattle.fire_effect.proofs.tags.new_tags.Goals as goal
 
 -- the operations that none of the other arms names, by their numbers as variants: they send to each destination in use
@@ -41,65 +40,13 @@ to_each (Operations.OnTwo o) g τ r b h v = refl
 to_each (Operations.OnConstant o) g τ r b h v = refl
 to_each Operations.Unknown g τ r b h v = absurd (miss rest 13 tt h)
 
-pub enum_told-1 : goal.enum_told-1
-unfolding new_tags_of
-enum_told-1 c = search rules
-
-pub to_none-requires : goal.to_none-requires
-unfolding new_tags_of
-to_none-requires c = search rules
-
-pub enum_told-in-Out : goal.enum_told-in-Out
-unfolding new_tags_of
-enum_told-in-Out c = search rules
-
-pub to_none-requires-in-Out : goal.to_none-requires-in-Out
-unfolding new_tags_of
-to_none-requires-in-Out c = search rules
-
-pub enum_told-in-Switch : goal.enum_told-in-Switch
-unfolding new_tags_of
-enum_told-in-Switch c = search rules
-
-pub switch-requires : goal.switch-requires
-unfolding new_tags_of
-switch-requires c = search rules
-
-pub enum_told-in-Next : goal.enum_told-in-Next
-unfolding new_tags_of
-enum_told-in-Next c = search rules
-
-pub next-requires : goal.next-requires
-unfolding new_tags_of
-next-requires c = search rules
-
-pub enum_told-in-Enter : goal.enum_told-in-Enter
-unfolding new_tags_of
-enum_told-in-Enter c = search rules
-
 pub enter-requires : goal.enter-requires
 unfolding new_tags_of
 enter-requires c = c.requires.of_enter c.in-Enter.is
 
-pub enum_told-in-Leave : goal.enum_told-in-Leave
-unfolding new_tags_of
-enum_told-in-Leave c = search rules
-
 pub leave-requires : goal.leave-requires
 unfolding new_tags_of
 leave-requires c = let p = c.requires in record { graph_width_len_bound = p.records; returns = p.returns; constant_value = p.of_leave c.in-Leave.is }
-
-pub enum_told-in-Unknown : goal.enum_told-in-Unknown
-unfolding new_tags_of
-enum_told-in-Unknown c = search rules
-
-pub to_none-requires-in-Unknown : goal.to_none-requires-in-Unknown
-unfolding new_tags_of
-to_none-requires-in-Unknown c = search rules
-
-pub to_all-requires : goal.to_all-requires
-unfolding new_tags_of
-to_all-requires c = search rules
 
 pub returns-in-Sink : goal.returns-in-Sink
 unfolding new_tags_of

@@ -7,16 +7,7 @@ use lib.IntN.{pos}
 use Rattle.arithmetic.proofs.Signed.{same_bits}
 use Rattle.arithmetic.proofs.Ranged.{eq_eq_z, ne_eq_z}
 use Rattle.rules.specs.InstructionSet.{side_of}
-use borrow.Author.Rules.{rules}
 use Rattle.fire_effect.proofs.tags.switch.Goals as goal
-
-pub to_one-requires : goal.to_one-requires
-unfolding side_of
-to_one-requires c = search rules
-
-pub to_one-requires-else-control-eq0 : goal.to_one-requires-else-control-eq0
-unfolding side_of
-to_one-requires-else-control-eq0 c = search rules
 
 pub returns-then-control-eq0 : goal.returns-then-control-eq0
 unfolding side_of

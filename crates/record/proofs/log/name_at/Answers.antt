@@ -17,10 +17,6 @@ returns-then-log-at-ne0 c =
     let a = c.args in
     rw (le-leb log_width (length (drop (a.i * log_width) a.log.now)) (rw length-drop (omega arith)), get_or-drop (a.i * log_width) a.log.now 17 0, ne_eqb _ _ c.if-log-at-ne0.true)
 
-pub decode-requires : goal.decode-requires
-unfolding name_of
-decode-requires c = rw (c.row_at.ensures, length-drop) (omega arith)
-
 pub returns : goal.returns
 unfolding name_of
 returns c =
@@ -29,6 +25,5 @@ returns c =
       le-leb log_width (length (drop (a.i * log_width) a.log.now)) (rw length-drop (omega arith)),
       get_or-drop (a.i * log_width) a.log.now 17 0,
       eq-eqb _ _ c.if-log-at-ne0.false,
-      c.decode.ensures,
-      c.row_at.ensures,
+      c.read.ensures,
     )

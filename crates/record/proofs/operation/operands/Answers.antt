@@ -6,5 +6,3 @@ use Rattle.record.proofs.operation.operands.Goals as goal
 pub returns : goal.returns
 unfolding counts
 returns c = counted c.args.code (search rules)
-
--- GONE array-read-result: array_read_result

@@ -1,7 +1,6 @@
 -- `text::line::make_path` meets its contract. Assumes nothing.
 use borrow.Author.Rules.{rules}
 use native.Mathlib.Omega.{arith}
-use mathlib.Core.Path.{◌∙◌}
 use mathlib.Core.List.{[], ◌∷◌}
 use lib.ListN.{length-append}
 use Rattle.record.specs.Paths.{path_number, PathFits}
@@ -13,13 +12,3 @@ pub put_path-requires : goal.put_path-requires
 put_path-requires c =
     let f : PathFits c.args.path = record { low = search rules; high = search rules } in
     record { room = omega (arith, path_short c.args.path f, length-append (decimal (path_number c.args.path)) (32 ∷ []), c.requires) }
-
-pub returns : goal.returns
-returns c =
-    let a = c.put_path.ensures in
-    let f : PathFits c.args.path = record { low = search rules; high = search rules } in
-    record {
-      size = a.kept ∙ c.requires;
-      fits = omega (arith, path_short c.args.path f, length-append (decimal (path_number c.args.path)) (32 ∷ []), a.place);
-      text = a.bytes;
-    }

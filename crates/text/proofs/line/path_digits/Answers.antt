@@ -15,9 +15,6 @@ overflow_add-k c =
     let f : PathFits c.args.path = record { low = search rules; high = search rules } in
     record { fits = omega (arith, path_short c.args.path f, l.invariant) }
 
-pub loop-rest-smaller : goal.loop-rest-smaller
-loop-rest-smaller c = omega (arith, c.by_ten-d.ensures.2, c.loop-rest-test.true)
-
 pub loop-rest-preserved : goal.loop-rest-preserved
 loop-rest-preserved c =
     let l = c.loop-rest in

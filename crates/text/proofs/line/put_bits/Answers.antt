@@ -1,25 +1,15 @@
--- `text::line::put_bits` meets its contract. Assumes nothing.
-use native.Mathlib.Omega.{arith}
-use Prim.Native.Nat.{◌-◌}
-use mathlib.Core.List.{[], ◌∷◌, ◌++◌}
-use Rattle.text.specs.Text.{decimal}
-use Rattle.text.proofs.Lines.{both, room_rest}
-use Rattle.text.proofs.Fields.{bits_up, bits_down}
+-- `text::line::put_bits` meets its contract: a number below 0 is a minus and its size. Assumes nothing.
+use mathlib.Core.Path.{◌≡◌, ap, ◌∙◌}
+use lib.IntN.{nat_abs}
+use mir.Facts.{to_z-of_z}
+use mir.Syntax.{w32}
+use mir.Val.{SFits}
+use Rattle.text.proofs.Decimals.{signed_minus}
+use Rattle.text.proofs.Lines.{both}
 use Rattle.text.proofs.line.put_bits.Goals as goal
 
-pub put_field-requires : goal.put_field-requires
-put_field-requires c = (c.requires.0, rw (bits_up c.args.bits c.if-bits-lt2147483648.true) at c.requires.1)
-
-pub put_byte-k-requires : goal.put_byte-k-requires
-put_byte-k-requires c = let p = rw (bits_down c.args.bits (omega arith) c.if-bits-lt2147483648.false) at c.requires.1 in omega (arith, p.room)
-
-pub put_field-requires-else-bits-lt2147483648 : goal.put_field-requires-else-bits-lt2147483648
-put_field-requires-else-bits-lt2147483648 c =
-    let p = rw (bits_down c.args.bits (omega arith) c.if-bits-lt2147483648.false) at c.requires.1 in
-    (c.requires.0, room_rest (decimal (4294967296 - c.args.bits) ++ 32 ∷ []) c.put_byte-k.ensures p)
-
-pub returns-then-bits-lt2147483648 : goal.returns-then-bits-lt2147483648
-returns-then-bits-lt2147483648 c = rw (bits_up c.args.bits c.if-bits-lt2147483648.true) c.put_field.ensures
-
-pub returns-else-bits-lt2147483648 : goal.returns-else-bits-lt2147483648
-returns-else-bits-lt2147483648 c = rw (bits_down c.args.bits (omega arith) c.if-bits-lt2147483648.false) (both c.put_byte-k.ensures c.put_field-else-bits-lt2147483648.ensures)
+pub returns-then-value-lt0 : goal.returns-then-value-lt0
+returns-then-value-lt0 c =
+    let f : SFits w32 c.signed-value.result = record { sfits = c.signed-value.type_inv } in
+    let size : c.from-magnitude.result ≡ nat_abs c.signed-value.result = c.from-magnitude.ensures ∙ c.unsigned_abs.ensures.value ∙ ap nat_abs (to_z-of_z f) in
+    rw (← c.signed-value.ensures, signed_minus c.signed-value.result (rw (to_z-of_z f) at c.if-value-lt0.true), ← size) (both c.put_byte-k.ensures c.put_field.ensures)

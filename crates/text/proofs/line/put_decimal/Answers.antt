@@ -60,9 +60,6 @@ returns-then-n-lt1000 c =
     let n = c.args.n in
     rw (three_digits n (omega arith) (omega arith)) (both c.put_byte-hundreds.ensures (both c.put_byte-tens-then-n-lt1000.ensures c.put_byte-then-n-lt1000.ensures))
 
-pub put_last_digits-requires : goal.put_last_digits-requires
-put_last_digits-requires c = omega (arith, c.digits.ensures, c.requires.room)
-
 pub returns : goal.returns
 returns c =
     let n = c.args.n in

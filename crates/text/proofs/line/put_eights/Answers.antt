@@ -3,12 +3,6 @@ use native.Mathlib.Omega.{arith}
 use Rattle.text.proofs.Loosely.{first_eight, next_eight, loosely}
 use Rattle.text.proofs.line.put_eights.Goals as goal
 
-pub put_eight-requires : goal.put_eight-requires
-put_eight-requires c = (omega (arith, c.requires.0), omega (arith, c.requires.2, c.requires.3))
-
-pub overflow_add-result : goal.overflow_add-result
-overflow_add-result c = omega (arith, c.requires.2)
-
 pub returns-then-count-le8 : goal.returns-then-count-le8
 returns-then-count-le8 c =
     let l = c.args.out.now in
@@ -16,12 +10,6 @@ returns-then-count-le8 c =
     let at = c.args.at in
     let e1 = first_eight l t at c.put_eight.ensures in
     loosely l t at 8 (omega (arith, c.requires.0)) (omega (arith, c.requires.2, c.requires.3)) c.args.count e1 (omega (arith, c.requires.1)) (omega (arith, c.requires.3))
-
-pub put_eight-requires-2 : goal.put_eight-requires-2
-put_eight-requires-2 c = (omega (arith, c.requires.0), omega (arith, c.requires.2, c.requires.3, c.put_eight.auto.out))
-
-pub overflow_add-result-then-count-le16 : goal.overflow_add-result-then-count-le16
-overflow_add-result-then-count-le16 c = omega (arith, c.requires.2)
 
 pub returns-then-count-le16 : goal.returns-then-count-le16
 returns-then-count-le16 c =
@@ -31,12 +19,6 @@ returns-then-count-le16 c =
     let e1 = first_eight l t at c.put_eight.ensures in
     let e2 = next_eight l t at 8 e1 c.put_eight-2.ensures (omega arith) (omega arith) in
     loosely l t at 16 (omega (arith, c.requires.0)) (omega (arith, c.requires.2, c.requires.3)) c.args.count e2 (omega (arith, c.requires.1)) (omega (arith, c.requires.3))
-
-pub put_eight-requires-3 : goal.put_eight-requires-3
-put_eight-requires-3 c = (omega (arith, c.requires.0), omega (arith, c.requires.2, c.requires.3, c.put_eight.auto.out, c.put_eight-2.auto.out))
-
-pub overflow_add-result-then-count-le24 : goal.overflow_add-result-then-count-le24
-overflow_add-result-then-count-le24 c = omega (arith, c.requires.2)
 
 pub returns-then-count-le24 : goal.returns-then-count-le24
 returns-then-count-le24 c =
@@ -48,12 +30,6 @@ returns-then-count-le24 c =
     let e3 = next_eight l t at 16 e2 c.put_eight-3.ensures (omega arith) (omega arith) in
     loosely l t at 24 (omega (arith, c.requires.0)) (omega (arith, c.requires.2, c.requires.3)) c.args.count e3 (omega (arith, c.requires.1)) (omega (arith, c.requires.3))
 
-pub put_eight-requires-4 : goal.put_eight-requires-4
-put_eight-requires-4 c = (omega (arith, c.requires.0), omega (arith, c.requires.2, c.requires.3, c.put_eight.auto.out, c.put_eight-2.auto.out, c.put_eight-3.auto.out))
-
-pub overflow_add-result-then-count-le32 : goal.overflow_add-result-then-count-le32
-overflow_add-result-then-count-le32 c = omega (arith, c.requires.2)
-
 pub returns-then-count-le32 : goal.returns-then-count-le32
 returns-then-count-le32 c =
     let l = c.args.out.now in
@@ -64,12 +40,6 @@ returns-then-count-le32 c =
     let e3 = next_eight l t at 16 e2 c.put_eight-3.ensures (omega arith) (omega arith) in
     let e4 = next_eight l t at 24 e3 c.put_eight-4.ensures (omega arith) (omega arith) in
     loosely l t at 32 (omega (arith, c.requires.0)) (omega (arith, c.requires.2, c.requires.3)) c.args.count e4 (omega (arith, c.requires.1)) (omega (arith, c.requires.3))
-
-pub put_eight-requires-5 : goal.put_eight-requires-5
-put_eight-requires-5 c = (omega (arith, c.requires.0), omega (arith, c.requires.2, c.requires.3, c.put_eight.auto.out, c.put_eight-2.auto.out, c.put_eight-3.auto.out, c.put_eight-4.auto.out))
-
-pub overflow_add-result-2 : goal.overflow_add-result-2
-overflow_add-result-2 c = omega (arith, c.requires.2)
 
 pub returns : goal.returns
 returns c =

@@ -2,10 +2,9 @@
 use native.Mathlib.Omega.{arith}
 use mathlib.Core.List.{[], ◌∷◌}
 use Rattle.record.specs.Paths.{path_number}
-use Rattle.text.specs.Text.{decimal}
 use Rattle.text.proofs.Decimals.{all_digits}
 use Rattle.text.proofs.Paths.{lower_only}
-use Rattle.text.proofs.Lines.{both, room_first, room_rest}
+use Rattle.text.proofs.Lines.{both, room_rest}
 use Rattle.text.proofs.line.put_path.Goals as goal
 
 pub put_number-requires : goal.put_number-requires
@@ -13,9 +12,6 @@ put_number-requires c = rw (← lower_only c.args.path c.if-path-eq0.true) c.req
 
 pub returns-then-path-eq0 : goal.returns-then-path-eq0
 returns-then-path-eq0 c = rw (lower_only c.args.path c.if-path-eq0.true) c.put_number.ensures
-
-pub put_path_digits-k-requires : goal.put_path_digits-k-requires
-put_path_digits-k-requires c = omega (arith, c.path_digits.ensures, (room_first (decimal (path_number c.args.path)) (c.args.end ∷ []) c.requires).room)
 
 pub put_byte-requires : goal.put_byte-requires
 put_byte-requires c =

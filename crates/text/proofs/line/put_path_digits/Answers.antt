@@ -3,20 +3,8 @@ use native.Mathlib.Omega.{arith}
 use mathlib.Core.Path.{ap, ◌∙◌}
 use Rattle.record.specs.Paths.{path_number}
 use Rattle.record.proofs.Paths.{number_words}
-use Rattle.text.proofs.Lines.{putting_first, putting_next, putting_last}
+use Rattle.text.proofs.Lines.{putting_next, putting_last}
 use Rattle.text.proofs.line.put_path_digits.Goals as goal
-
-pub loop-left-init : goal.loop-left-init
-loop-left-init c = let a = c.args in putting_first a.out.now a.at a.k (path_number a.path)
-
-pub overflow_add-out : goal.overflow_add-out
-overflow_add-out c = record { fits = omega (arith, c.by_ten-d.ensures.1) }
-
-pub overflow_add-out-in-loop-left : goal.overflow_add-out-in-loop-left
-overflow_add-out-in-loop-left c = let l = c.loop-left in omega (arith, c.requires, l.invariant.few, l.invariant.kept)
-
-pub bounds-out-at : goal.bounds-out-at
-bounds-out-at c = let l = c.loop-left in omega (arith, c.requires, l.invariant.few, l.invariant.kept)
 
 pub loop-left-preserved : goal.loop-left-preserved
 loop-left-preserved c =
@@ -24,9 +12,6 @@ loop-left-preserved c =
     let l = c.loop-left in
     let q = ap path_number b.ensures.0 ∙ number_words _ in
     rw (q, b.ensures.1) (putting_next c.args.out.now c.args.at c.args.k (path_number c.args.path) l.out (path_number l.rest) l.left c.requires (omega arith) l.invariant)
-
-pub shape_of-out : goal.shape_of-out
-shape_of-out c = c.loop-left.invariant.kept
 
 pub returns : goal.returns
 returns c =

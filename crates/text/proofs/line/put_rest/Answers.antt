@@ -1,41 +1,13 @@
 -- `text::line::put_rest` meets its contract. Assumes nothing.
-use borrow.Author.Rules.{rules}
 use native.Mathlib.Omega.{arith}
 use mathlib.Core.List.{[]}
 use Rattle.number.specs.Number.{byte_at, number32}
 use Rattle.record.specs.TokensAndTags.{decode_token, value_in}
 use Rattle.text.specs.Text.{decimal, signed_decimal, state_word}
 use Rattle.text.proofs.Lines.{field_room}
-use Rattle.text.proofs.TokenFields.{word, value, port, after_iteration, after_instruction, after_port, after_value, rest_put}
+use Rattle.text.proofs.TokenFields.{word, value, after_iteration, after_instruction, after_port, after_value, rest_put}
 use Rattle.text.proofs.Fields.{value_of}
 use Rattle.text.proofs.line.put_rest.Goals as goal
-
-pub u32_at-bits-requires : goal.u32_at-bits-requires
-unfolding decode_token
-u32_at-bits-requires c = search rules
-
-pub bounds-s-16 : goal.bounds-s-16
-unfolding decode_token
-bounds-s-16 c = search rules
-
-pub overflow_cast-s : goal.overflow_cast-s
-unfolding decode_token
-overflow_cast-s c = omega (arith, c.shared_slice_known-2-1.given 16)
-
-pub put_small-iteration-requires : goal.put_small-iteration-requires
-unfolding decode_token
-put_small-iteration-requires c =
-    let l = c.args.s.now in
-    let t = decode_token l in
-    (omega (arith, c.shared_slice_known-2-1.given 16), c.requires.1, field_room (decimal t.tag.instruction) (port t) (decimal t.tag.iteration) c.requires.2)
-
-pub u16_at-requires : goal.u16_at-requires
-unfolding decode_token
-u16_at-requires c = search rules
-
-pub overflow_cast-u16_at : goal.overflow_cast-u16_at
-unfolding decode_token
-overflow_cast-u16_at c = search rules
 
 pub put_field-instruction-requires : goal.put_field-instruction-requires
 unfolding decode_token
@@ -43,15 +15,7 @@ put_field-instruction-requires c =
     let l = c.args.s.now in
     let t = decode_token l in
     let first = c.put_small-iteration.ensures in
-    (c.requires.1, rw c.u16_at.ensures (field_room (decimal t.port) (value t) (decimal t.tag.instruction) (after_iteration t c.requires.2 first)))
-
-pub bounds-s-17 : goal.bounds-s-17
-unfolding decode_token
-bounds-s-17 c = search rules
-
-pub overflow_cast-s-2 : goal.overflow_cast-s-2
-unfolding decode_token
-overflow_cast-s-2 c = omega (arith, c.shared_slice_known-3-1.given 17)
+    rw c.u16_at.ensures (field_room (decimal t.port) (value t) (decimal t.tag.instruction) (after_iteration t c.requires.1 first))
 
 pub put_small-port-requires : goal.put_small-port-requires
 unfolding decode_token
@@ -61,7 +25,7 @@ put_small-port-requires c =
     let v = signed_decimal (value_in t.content) in
     let first = c.put_small-iteration.ensures in
     let pf = rw c.u16_at.ensures at c.put_field-instruction.ensures in
-    (omega (arith, c.shared_slice_known-3-1.given 17), c.requires.1, field_room v (word t) (decimal t.port) (after_instruction t c.requires.2 first pf))
+    (omega (arith, c.shared_slice_known-3-1.given 17), field_room v (word t) (decimal t.port) (after_instruction t c.requires.1 first pf))
 
 pub put_bits-value-requires : goal.put_bits-value-requires
 unfolding decode_token
@@ -73,11 +37,7 @@ put_bits-value-requires c =
     let first = c.put_small-iteration.ensures in
     let pf = rw c.u16_at.ensures at c.put_field-instruction.ensures in
     let third = c.put_small-port.ensures in
-    (c.requires.1, rw (u, ← value_of (number32 l 20) (byte_at l 24)) (field_room (state_word t.content) [] v (after_port t c.requires.2 first pf third)))
-
-pub bounds-s-24 : goal.bounds-s-24
-unfolding decode_token
-bounds-s-24 c = search rules
+    rw (u, ← value_of (number32 l 20) (byte_at l 24)) (field_room (state_word t.content) [] v (after_port t c.requires.1 first pf third))
 
 pub put_state_of-requires : goal.put_state_of-requires
 unfolding decode_token
@@ -89,11 +49,7 @@ put_state_of-requires c =
     let pf = rw c.u16_at.ensures at c.put_field-instruction.ensures in
     let third = c.put_small-port.ensures in
     let pb = rw (u, ← value_of (number32 l 20) (byte_at l 24)) at c.put_bits-value.ensures in
-    rw u (after_value t c.requires.2 first pf third pb)
-
-pub shape_of-out : goal.shape_of-out
-unfolding decode_token
-shape_of-out c = search rules
+    rw u (after_value t c.requires.1 first pf third pb)
 
 pub returns : goal.returns
 unfolding decode_token

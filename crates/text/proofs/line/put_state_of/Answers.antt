@@ -2,9 +2,6 @@
 use Rattle.text.proofs.Fields.{word_live, word_spent, word_deferred}
 use Rattle.text.proofs.line.put_state_of.Goals as goal
 
-pub put_word-requires : goal.put_word-requires
-put_word-requires c = rw (word_live c.args.bits c.args.state c.if-state-eq0.true) at c.requires
-
 pub returns-then-state-eq0 : goal.returns-then-state-eq0
 returns-then-state-eq0 c = rw (word_live c.args.bits c.args.state c.if-state-eq0.true) c.put_word.ensures
 

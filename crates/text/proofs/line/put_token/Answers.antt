@@ -1,6 +1,4 @@
 -- `text::line::put_token` meets its contract: its six fields, each with the byte that ends it. Assumes nothing.
-use mathlib.Core.Path.{◌∙◌}
-use borrow.Author.Rules.{rules}
 use mathlib.Core.List.{[]}
 use mir.Facts.{to_z-of_z}
 use mir.Syntax.{w32}
@@ -9,49 +7,9 @@ use Rattle.record.specs.Paths.{path_number}
 use Rattle.text.specs.Text.{decimal, signed_decimal, state_word, token_line}
 use Rattle.text.proofs.Fields.{word_of_state}
 use Rattle.text.proofs.Lines.{field_room, with_rest}
-use Rattle.text.proofs.TokenFields.{word, value, port, instruction, after_path, after_iteration, after_instruction, after_port, after_value, rest_put}
+use Rattle.text.proofs.TokenFields.{instruction, after_path, after_port, after_value, rest_put}
 use Rattle.record.specs.TokensAndTags.{value_in}
 use Rattle.text.proofs.line.put_token.Goals as goal
-
-pub put_path-path-requires : goal.put_path-path-requires
-unfolding token_line
-put_path-path-requires c =
-    let t = c.args.t in
-    field_room (decimal t.tag.iteration) (instruction t) (decimal (path_number t.tag.path)) c.requires
-
-pub overflow_cast-tag : goal.overflow_cast-tag
-unfolding token_line
-overflow_cast-tag c = search rules
-
-pub put_number-iteration-requires : goal.put_number-iteration-requires
-unfolding token_line
-put_number-iteration-requires c =
-    let t = c.args.t in
-    field_room (decimal t.tag.instruction) (port t) (decimal t.tag.iteration) (after_path t c.requires c.put_path-path.ensures)
-
-pub overflow_cast-tag-2 : goal.overflow_cast-tag-2
-unfolding token_line
-overflow_cast-tag-2 c = search rules
-
-pub put_number-instruction-requires : goal.put_number-instruction-requires
-unfolding token_line
-put_number-instruction-requires c =
-    let t = c.args.t in
-    field_room (decimal t.port) (value t) (decimal t.tag.instruction) (after_iteration t (after_path t c.requires c.put_path-path.ensures) c.put_number-iteration.ensures)
-
-pub overflow_cast-t : goal.overflow_cast-t
-unfolding token_line
-overflow_cast-t c = search rules
-
-pub put_number-port-requires : goal.put_number-port-requires
-unfolding token_line
-put_number-port-requires c =
-    let t = c.args.t in
-    field_room (signed_decimal (value_in t.content)) (word t) (decimal t.port) (after_instruction t (after_path t c.requires c.put_path-path.ensures) c.put_number-iteration.ensures c.put_number-instruction.ensures)
-
-pub value_in-requires : goal.value_in-requires
-unfolding token_line
-value_in-requires c = search rules
 
 pub put_signed-value-requires : goal.put_signed-value-requires
 unfolding token_line
@@ -62,10 +20,6 @@ put_signed-value-requires c =
     let f : SFits w32 z.result = record { sfits = z.type_inv } in
     rw (to_z-of_z f, z.ensures) (field_room (state_word t.content) [] (signed_decimal (value_in t.content)) (after_port t p c.put_number-iteration.ensures c.put_number-instruction.ensures c.put_number-port.ensures))
 
-pub state_of-requires : goal.state_of-requires
-unfolding token_line
-state_of-requires c = search rules
-
 pub put_state_of-requires : goal.put_state_of-requires
 unfolding token_line
 put_state_of-requires c =
@@ -75,11 +29,6 @@ put_state_of-requires c =
     let f : SFits w32 z.result = record { sfits = z.type_inv } in
     let v = rw (to_z-of_z f, z.ensures) at c.put_signed-value.ensures in
     rw (c.state_of.ensures, word_of_state t.content) (after_value t p c.put_number-iteration.ensures c.put_number-instruction.ensures c.put_number-port.ensures v)
-
-pub shape_of-out : goal.shape_of-out
-unfolding token_line
-shape_of-out c =
-    c.put_state_of.auto.out ∙ c.put_signed-value.auto.out ∙ c.put_number-port.auto.out ∙ c.put_number-instruction.auto.out ∙ c.put_number-iteration.auto.out ∙ c.put_path-path.auto.out
 
 pub returns : goal.returns
 unfolding token_line

@@ -4,10 +4,6 @@ use Rattle.record.specs.Calls.{leave_of}
 use Rattle.record.proofs.Paths.{lowered_fits, left_words, left_site, left_iteration}
 use Rattle.record.proofs.tag.Tag.leave.Goals as goal
 
-pub overflow_add-result : goal.overflow_add-result
-unfolding leave_of
-overflow_add-result c = record { fits = lowered_fits c.args.self.path (search rules) }
-
 pub returns-then-is_root : goal.returns-then-is_root
 unfolding leave_of
 returns-then-is_root c = rw (sym c.is_root.ensures ∙ c.if-is_root.true)

@@ -1,2 +1,0 @@
--- The definitions of the table of ranges. Assumes nothing.
-pub mod Table
