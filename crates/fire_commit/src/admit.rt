@@ -52,7 +52,7 @@ pub fn admit(
         return Ok((none, none));
     }
     let tag = first.tag;
-    let Some(slot) = store::seek(store, ledger, used, tag, first.port) else {
+    let Some(slot) = store::seek(&store.links, ledger, used, tag, first.port) else {
         return Err(Refusal::SecondToken);
     };
     if outputs.count == 1 {
@@ -62,7 +62,7 @@ pub fn admit(
         return Err(Refusal::SecondToken);
     }
     let other = second.tag;
-    let Some(next) = store::seek(store, ledger, used, other, second.port) else {
+    let Some(next) = store::seek(&store.links, ledger, used, other, second.port) else {
         return Err(Refusal::SecondToken);
     };
     Ok((slot, beside(first, second, next, used)))

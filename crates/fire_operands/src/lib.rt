@@ -56,7 +56,7 @@ pub fn operands_of(
             right: own,
         };
     }
-    let other = store::partner(store, place).unwrap_or(place);
+    let other = store::partner(&store.links, place).unwrap_or(place);
     let u = Token::read(ledger, other);
     let found = u.content;
     let value = value_in(found);

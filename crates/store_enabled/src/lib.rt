@@ -212,16 +212,16 @@ pub fn arity(tables: &[u16], tag: Tag) -> u16
 // The place of the activity of a tag, if it is enabled: its operands are found by their ports.
 pub fn enabled_by_tag(
     tables: &Tables,
-    store: &Store,
+    links: &Links,
     ledger: &[u8],
     used: usize,
     tag: Tag,
 ) -> Option<usize>
-    requires { Known store.now.links ledger.now used }
+    requires { Known links.now ledger.now used }
     ensures { (result ≡ enabled_at tables.now (tokens used ledger.now) tag) × FoundWithin result used }
 {
-    let first = store_chains::find(&store.links, ledger, used, tag, 0);
-    let second = store_chains::find(&store.links, ledger, used, tag, 1);
+    let first = store_chains::find(links, ledger, used, tag, 0);
+    let second = store_chains::find(links, ledger, used, tag, 1);
     if ready(ledger, first, second, arity(tables, tag)) {
         Some(first.unwrap_or(used).min(second.unwrap_or(used)))
     } else {
