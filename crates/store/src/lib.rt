@@ -148,7 +148,7 @@ pub fn wake(tables: &Tables, store: &mut Store, ledger: &mut [u8], used: usize, 
     while let Some(i) = at {
         let t = Token::read(ledger, i);
         let u = woken(t, v);
-        store_enabled::change(tables, store, ledger, used, i, u);
+        store_enabled::change(tables, &store.links, &mut store.flags, ledger, used, i, u);
         at = store_chains::place_at(&store.links, i + store_chains::LATER);
     }
     store.links[head] = 0;
