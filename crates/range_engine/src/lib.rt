@@ -134,7 +134,9 @@ fn handled(
         (with_inputs bound picks.now budget graph.now arrays.now inputs.now (length ledger.old)
         (length cells.old)) result ledger.old ledger.new cells.old cells.new }
 {
-    let table = range_inputs::narrow(inputs, handles);
+    let mut over = OverRanges {
+        table: range_inputs::narrow(inputs, handles),
+    };
     let capacity = ledger.len() / range_output::TOKEN_WIDTH;
     let checked = range_inputs::check(graph, inputs, handles, capacity);
     match checked {
@@ -146,7 +148,7 @@ fn handled(
             picks,
             budget,
             bound,
-            &mut OverRanges { table },
+            &mut over,
             ledger,
             cells,
         ),
