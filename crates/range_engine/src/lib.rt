@@ -142,15 +142,7 @@ fn handled(
     match checked {
         Err(fault) => answer::refused(fault),
         Ok(()) => accepted(
-            graph,
-            arrays,
-            handles,
-            picks,
-            budget,
-            bound,
-            &mut over,
-            ledger,
-            cells,
+            graph, arrays, handles, picks, budget, bound, &mut over, ledger, cells,
         ),
     }
 }
