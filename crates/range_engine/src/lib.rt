@@ -17,6 +17,7 @@ use checks::bound::Bounded;
 use checks::stores;
 use engine::{choice, turns};
 use range_fire::OverRanges;
+use range_table::RangeTable;
 use record::{cell, token};
 use rules::answer;
 use rules::answer::{Answer, Fault, Refusal};
@@ -135,8 +136,9 @@ fn handled(
         (length cells.old)) result ledger.old ledger.new cells.old cells.new }
 {
     let mut over = OverRanges {
-        table: range_inputs::narrow(inputs, handles),
+        table: RangeTable::new(),
     };
+    range_inputs::narrow(inputs, handles, &mut over.table);
     let capacity = ledger.len() / range_output::TOKEN_WIDTH;
     let checked = range_inputs::check(graph, inputs, handles, capacity);
     match checked {

@@ -42,6 +42,13 @@ impl RangeTable {
         }
     }
 
+    // Takes all ranges away.
+    pub fn clear(&mut self)
+        ensures { self.new ≡ [] }
+    {
+        self.count = 0;
+    }
+
     pub fn as_slice(&self) -> &[Range]
         ensures { result.now ≡ self.now }
     {
