@@ -100,7 +100,7 @@ fn place_named(
             return Some(first);
         }
     }
-    store::enabled_by_tag(tables, store, ledger, used, tag)
+    store::enabled_by_tag(tables, &store.links, ledger, used, tag)
 }
 
 // The one that the record of this turn names, if it is enabled.

@@ -345,6 +345,11 @@ module _ (graph : List ℕ) {tables links flags ledger cells : List ℕ} {used :
   abbrev s₁ : State Tag ℤ
   s₁ = state_in ledger cells used
 
+  -- whatever asks for it, a refusal: nothing was written
+  pub asks_refusal : (σ : Tag) {e : Effect Refusal Tag ℤ} {r : Refusal} → e ≡ refuse r → Stopped r (graph_of graph) σ e tables links flags ledger cells used ledger cells
+  unfolding commit
+  asks_refusal σ h = record { step = ap (commit M₁ s₁ σ) h; running = now; same_ledger = refl; same_cells = refl }
+
   -- the operands that matching found, and the token, its instruction and the operation that the code read; the operation gives `did`, and then there is kept what `y` is
   module _ (t : Record.Token) (same : t ≡ token_at ledger place) (other : ℕ) (v w : ℤ)
       (matched : matched_at (arity_in (graph_of graph) (token_at ledger place).tag) (tokens used ledger) (token_at ledger place).tag ≡ both_at (token_at ledger place).port place other v w)
@@ -384,8 +389,7 @@ module _ (graph : List ℕ) {tables links flags ledger cells : List ℕ} {used :
 
     -- a refusal: nothing was written
     stopped_here : {q : Refusal} → effect ≡ refuse q → Stopped q (graph_of graph) τ its tables links flags ledger cells used ledger cells
-    unfolding commit
-    stopped_here e = record { step = ap (commit M₁ s₁ τ) (found ∙ e); running = now; same_ledger = refl; same_cells = refl }
+    stopped_here e = asks_refusal τ (found ∙ e)
 
     module _ {did : Result Action Refusal} (gives : did ≡ operated o (arrays_in tables) r.constant (length cells / cell_width) v w) where
       -- the operation is refused

@@ -149,7 +149,7 @@ pub fn fire<O: Operate>(
     let t = Token::read(ledger, place);
     let tag = t.tag;
     let arity = store_enabled::arity(tables, tag);
-    let matched = fire_operands::operands_of(store, ledger, used, tag, arity, place);
+    let matched = fire_operands::operands_of(&store.links, ledger, used, tag, arity, place);
     let left = matched.left;
     let right = matched.right;
     let operands = Places {

@@ -9,8 +9,7 @@ ghost use Rattle.fire_commit.specs.Admitted.{SlotBeside, admitted_of, AdmittedAs
 use fire_effect::output::{Key, Outputs};
 use record::token;
 use rules::answer::Refusal;
-use store_chains::Slot;
-use store_enabled::Store;
+use store_chains::{Links, Slot};
 
 // The slot of the second of two outputs that differ, once the first stands in record `used`: where both have one tag, they are
 // partners.
@@ -31,12 +30,12 @@ fn beside(first: Key, second: Key, slot: Slot, used: usize) -> Slot
 // The caller lends the ledger's bytes, so the number of its tokens goes beside them.
 #[tactic(auto, unfolding(crate::specs::Admitted::admitted_of, crate::specs::Admitted::any_taken_of, crate::specs::Admitted::is_taken))]
 pub fn admit(
-    store: &Store,
+    links: &Links,
     ledger: &[u8],
     used: usize,
     outputs: Outputs,
 ) -> Result<(Slot, Slot), Refusal>
-    requires { Known store.now.links ledger.now used × (used ≤ 2048) × (outputs.count ≤ 2) × LowPorts outputs }
+    requires { Known links.now ledger.now used × (used ≤ 2048) × (outputs.count ≤ 2) × LowPorts outputs }
     ensures { AdmittedAs result (admitted_of (length ledger.now / token_width) (tokens used ledger.now) outputs) (tokens used ledger.now) outputs }
 {
     let first = outputs.first;
@@ -52,7 +51,7 @@ pub fn admit(
         return Ok((none, none));
     }
     let tag = first.tag;
-    let Some(slot) = store::seek(store, ledger, used, tag, first.port) else {
+    let Some(slot) = store::seek(links, ledger, used, tag, first.port) else {
         return Err(Refusal::SecondToken);
     };
     if outputs.count == 1 {
@@ -62,7 +61,7 @@ pub fn admit(
         return Err(Refusal::SecondToken);
     }
     let other = second.tag;
-    let Some(next) = store::seek(store, ledger, used, other, second.port) else {
+    let Some(next) = store::seek(links, ledger, used, other, second.port) else {
         return Err(Refusal::SecondToken);
     };
     Ok((slot, beside(first, second, next, used)))

@@ -37,7 +37,7 @@ pub fn commit(
     if fire_outputs::writes_again(cells, action) {
         return Err(Refusal::SecondWrite);
     }
-    let (first, second) = admit::admit(store, ledger, used, sent)?;
+    let (first, second) = admit::admit(&store.links, ledger, used, sent)?;
     Ok(fire_outputs::carry_out(
         tables, store, ledger, cells, used, operands, action, sent, first, second,
     ))

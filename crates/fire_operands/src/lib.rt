@@ -9,7 +9,7 @@ ghost use Rattle.fire_operands.specs.Operands.{both_at, Earliest, matched_at};
 use record::codec::Decode;
 use record::tag::Tag;
 use record::token::{Content, Token};
-use store_enabled::Store;
+use store_chains::Links;
 
 // The operands of an enabled activity: one stands at its place, the other here, and the values are by ports. Where one is waited for,
 // it stands for both: no Option, since `states_spent`, by which `store::spend_operands` promises what it does, is of two places, and one
@@ -36,14 +36,14 @@ fn value_in(content: Content) -> i32
 // one. The arity is a number, as `store_enabled::arity` gives it.
 // The caller lends the ledger's bytes, so the number of its tokens goes beside them.
 pub fn operands_of(
-    store: &Store,
+    links: &Links,
     ledger: &[u8],
     used: usize,
     tag: Tag,
     arity: u16,
     place: usize,
 ) -> Operands
-    requires { Known store.now.links ledger.now used × Earliest arity (tokens used ledger.now) tag place }
+    requires { Known links.now ledger.now used × Earliest arity (tokens used ledger.now) tag place }
     ensures { both_at (token_at ledger.now place).port place result.other result.left result.right ≡ matched_at arity (tokens used ledger.now) tag }
 {
     let t = Token::read(ledger, place);
@@ -56,7 +56,7 @@ pub fn operands_of(
             right: own,
         };
     }
-    let other = store::partner(store, place).unwrap_or(place);
+    let other = store::partner(links, place).unwrap_or(place);
     let u = Token::read(ledger, other);
     let found = u.content;
     let value = value_in(found);

@@ -70,12 +70,13 @@ fn put(held: &mut Flags, i: usize, on: bool)
 // ---- marks: two of each of 2,048 records
 
 // Clauses see one list, the second marks behind the first. No array of pairs: the two marks of a record are never read together.
+// The fields are public, since any numbers make marks: a caller can make, keep and copy them.
 #[derive(Drop)]
 pub struct Marks {
     // From which record on one may hold back the activity at this one.
-    holders: [u16; 2048],
+    pub holders: [u16; 2048],
     // The records from this one on, and below the mark, no search need look at.
-    skips: [u16; 2048],
+    pub skips: [u16; 2048],
 }
 
 impl Model for Marks {

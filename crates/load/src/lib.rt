@@ -38,7 +38,7 @@ pub fn inputs(tables: &Tables, store: &mut Store, ledger: &mut [u8], inputs: &[u
         // 01, "Tokens and tags": an input carries the root tag, of which no bucket has to be worked out.
         let own = t.tag;
         let tag = Tag::root(own.instruction);
-        let Some(slot) = store::seek(store, ledger, i, tag, t.port) else {
+        let Some(slot) = store::seek(&store.links, ledger, i, tag, t.port) else {
             // No two inputs stand on one port of a tag.
             return i;
         };

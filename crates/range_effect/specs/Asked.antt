@@ -25,6 +25,23 @@ as_is_ask x = record { operated = x; added = [] }
 abbrev pub only_if : Bool → Result Action Refusal → Result Action Refusal
 only_if decided x = cond decided x (Err Refusals.Undecided)
 
+-- the operand on port 0 of a plain operation, if the operand that decides it is decided; x and y are the ranges on ports 0 and 1
+unfoldable pub operand_of : Operation → (x y : Range) → (a : ℤ) → Option ℤ
+operand_of Operations.Copy x y a = Some a
+operand_of Operations.Sink x y a = Some a
+operand_of Operations.Out x y a = Some a
+operand_of Operations.Const x y a = Some a
+operand_of Operations.Switch x y a = cond (not (is_undecided y)) (Some a) None
+operand_of Operations.Gate x y a = Some a
+operand_of Operations.Next x y a = Some a
+operand_of Operations.Enter x y a = Some a
+operand_of Operations.Leave x y a = Some a
+operand_of Operations.Fetch x y a = cond (is_single x) (Some x.low) None
+operand_of Operations.Store x y a = cond (is_single x) (Some x.low) None
+operand_of (Operations.OnTwo o) x y a = Some a
+operand_of (Operations.OnConstant o) x y a = Some a
+operand_of Operations.Unknown x y a = Some a
+
 -- a new range has the handle of the table's end; 12 if there is none
 abbrev pub new_ask : List Range → Option Range → Ask
 new_ask t (Some r) = record { operated = Ok (Send (pos (length t))); added = r ∷ [] }

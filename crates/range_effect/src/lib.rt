@@ -6,7 +6,7 @@ ghost use Rattle.std.specs.Prelude.{◌<◌, ◌≡◌, length};
 ghost use Rattle.rules.specs.RangeSet.{is_undecided};
 ghost use Rattle.abstraction.specs.Tables.{arrays_in};
 ghost use Rattle.fire_effect.specs.Effects.{operated_of};
-ghost use Rattle.range_effect.specs.Asked.{only_if, new_ask, ask_of, AsksFor};
+ghost use Rattle.range_effect.specs.Asked.{operand_of, new_ask, ask_of, AsksFor};
 
 use arithmetic::Range;
 use fire_effect::operate;
@@ -23,14 +23,16 @@ fn undecided(control: Range) -> bool
     range_arithmetic::may_be_zero(control) && !range_arithmetic::is_single(control)
 }
 
-// What is asked for if the operand that decides it is decided; else 23.
-fn only_if(decided: bool, operated: Result<Action, Refusal>) -> Result<Action, Refusal>
-    ensures { result ≡ only_if decided operated }
+// The operand on port 0 with which the plain operation is asked, or none if the operand that decides it is undecided. A cell is named by the
+// single number that its range is.
+#[tactic(auto, unfolding(crate::specs::Asked::operand_of))]
+fn operand(o: Operation, x: Range, y: Range, a: i32) -> Option<i32>
+    ensures { result ≡ operand_of o x y a }
 {
-    if decided {
-        operated
-    } else {
-        Err(Refusal::Undecided)
+    match o {
+        Operation::Switch => (!undecided(y)).then_some(a),
+        Operation::Fetch | Operation::Store => range_arithmetic::is_single(x).then_some(x.low),
+        _ => Some(a),
     }
 }
 
@@ -66,11 +68,10 @@ pub fn operate(
             table,
             range_arithmetic::range(op, x, Range { low: k, high: k }),
         ),
-        Operation::Switch => only_if(!undecided(y), operate::operate(tables, o, k, cells, a, b)),
-        Operation::Fetch | Operation::Store => only_if(
-            range_arithmetic::is_single(x),
-            operate::operate(tables, o, k, cells, x.low, b),
-        ),
-        _ => operate::operate(tables, o, k, cells, a, b),
+        // One call, which the compiler makes part of the firing.
+        _ => {
+            let a = operand(o, x, y, a).ok_or(Refusal::Undecided)?;
+            operate::operate(tables, o, k, cells, a, b)
+        }
     }
 }

@@ -17,6 +17,7 @@ use checks::bound::Bounded;
 use checks::stores;
 use engine::{choice, turns};
 use range_fire::OverRanges;
+use range_table::RangeTable;
 use record::{cell, token};
 use rules::answer;
 use rules::answer::{Answer, Fault, Refusal};
@@ -134,21 +135,16 @@ fn handled(
         (with_inputs bound picks.now budget graph.now arrays.now inputs.now (length ledger.old)
         (length cells.old)) result ledger.old ledger.new cells.old cells.new }
 {
-    let table = range_inputs::narrow(inputs, handles);
+    let mut over = OverRanges {
+        table: RangeTable::new(),
+    };
+    range_inputs::narrow(inputs, handles, &mut over.table);
     let capacity = ledger.len() / range_output::TOKEN_WIDTH;
     let checked = range_inputs::check(graph, inputs, handles, capacity);
     match checked {
         Err(fault) => answer::refused(fault),
         Ok(()) => accepted(
-            graph,
-            arrays,
-            handles,
-            picks,
-            budget,
-            bound,
-            &mut OverRanges { table },
-            ledger,
-            cells,
+            graph, arrays, handles, picks, budget, bound, &mut over, ledger, cells,
         ),
     }
 }

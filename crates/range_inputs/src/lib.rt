@@ -61,12 +61,13 @@ fn narrowed(s: &[u8], handle: u32) -> [u8; token::WIDTH]
     row
 }
 
-// The inputs as handles, and the table of their ranges: the single value 0, and then a range for each input.
-pub fn narrow(inputs: &[u8], handles: &mut [u8]) -> RangeTable
+// The inputs as handles, and the table of their ranges: the single value 0, and then a range for each input. The table is lent, as one that is
+// given back would be copied to where it is kept.
+pub fn narrow(inputs: &[u8], handles: &mut [u8], table: &mut RangeTable)
     requires { RoomFor inputs.now (length handles.old) }
-    ensures { Narrow inputs.now handles.old handles.new result }
+    ensures { Narrow inputs.now handles.old handles.new table.new }
 {
-    let mut table = RangeTable::new();
+    table.clear();
     table.add(Range { low: 0, high: 0 });
     for i in 0..inputs.len() / WIDTH {
         let s = buffer::row_at(inputs, WIDTH, i);
@@ -74,7 +75,6 @@ pub fn narrow(inputs: &[u8], handles: &mut [u8]) -> RangeTable
         let row = narrowed(s, number::bits(handle));
         buffer::put_row(handles, token::WIDTH, i, &row);
     }
-    table
 }
 
 // Refusals 6, 23, 8 and 9: `handles` are the inputs as handles. 6, 8 and 9 look at no value.

@@ -55,14 +55,14 @@ fn ends_of(table: &RangeTable, content: Content) -> Ends
     }
 }
 
-// A plain record, and the high value at its end.
-fn with_high<const N: usize>(plain: &[u8], high: u32) -> [u8; N]
-    requires { length plain.now + 4 ≡ N }
+// A plain record, and the high value at its end. Both lengths are the types': with that of a slice each record would be copied by a call.
+fn with_high<const P: usize, const N: usize>(plain: &[u8; P], high: u32) -> [u8; N]
+    requires { P + 4 ≡ N }
     ensures { result ≡ (plain.now ++ bytes32 high) }
 {
     let mut row = [0; N];
     buffer::write_at(&mut row, 0, plain);
-    buffer::write_at(&mut row, plain.len(), &high.to_le_bytes());
+    buffer::write_at(&mut row, P, &high.to_le_bytes());
     row
 }
 

@@ -11,6 +11,9 @@ use std::marker::Model;
 // Room for a range of each token, one for the value 0, and one of a firing that is refused.
 pub const ROOM: usize = 2050;
 
+// As a constant: an array of structs that is made as the program runs is filled one by one, by a call each.
+const ZEROS: [Range; ROOM] = [Range { low: 0, high: 0 }; ROOM];
+
 // Clauses see the list of the ranges.
 #[derive(Drop)]
 pub struct RangeTable {
@@ -34,9 +37,16 @@ impl RangeTable {
         ensures { result ≡ [] }
     {
         RangeTable {
-            ranges: [Range { low: 0, high: 0 }; ROOM],
+            ranges: ZEROS,
             count: 0,
         }
+    }
+
+    // Takes all ranges away.
+    pub fn clear(&mut self)
+        ensures { self.new ≡ [] }
+    {
+        self.count = 0;
     }
 
     pub fn as_slice(&self) -> &[Range]

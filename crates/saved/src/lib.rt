@@ -124,7 +124,7 @@ fn arrives(
     if !content_allowed(tables, count, t) {
         return false;
     }
-    store::find(store, ledger, i, tag, t.port).is_none()
+    store::find(&store.links, ledger, i, tag, t.port).is_none()
 }
 
 fn is_spent(content: Content) -> bool
@@ -162,7 +162,11 @@ fn closes(tables: &Tables, store: &Store, ledger: &[u8], i: usize, t: Token) -> 
         return false;
     }
     let tag = t.tag;
-    spent_found(ledger, i, store::find(store, ledger, i, tag, 1 - t.port))
+    spent_found(
+        ledger,
+        i,
+        store::find(&store.links, ledger, i, tag, 1 - t.port),
+    )
 }
 
 // Whether t is a spent token on port 0: it stands for its tag's firing.
@@ -203,7 +207,7 @@ fn enter(
         of_two += usize::from(spent_of_two(tables, t));
         closed += usize::from(closes(tables, store, ledger, i, t));
         let tag = t.tag;
-        let Some(slot) = store::seek(store, ledger, i, tag, t.port) else {
+        let Some(slot) = store::seek(&store.links, ledger, i, tag, t.port) else {
             // `arrives` found none there.
             return false;
         };
@@ -237,7 +241,7 @@ fn cell_right(store: &Store, cells: &[u8], c: usize) -> bool
         return false;
     }
     let x = Cell::read(cells, c);
-    store::any_deferred(store, c) == is_waiting(x)
+    store::any_deferred(&store.links, c) == is_waiting(x)
 }
 
 // The pass over the cells.

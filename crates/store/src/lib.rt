@@ -21,32 +21,32 @@ ghost use Rattle.store.specs.Matching.{Matching};
 use record::codec::Decode;
 use record::tag::Tag;
 use record::token::{Content, Token};
-use store_chains::Slot;
+use store_chains::{Links, Slot};
 use store_enabled::{Store, Tables};
 use store_flags::Flags;
 
 // The token that stands at a port of a tag. A port is a number, as in the records of the lent ledger (`Token`).
-pub fn find(store: &Store, ledger: &[u8], used: usize, tag: Tag, port: u8) -> Option<usize>
-    requires { Known store.now.links ledger.now used }
+pub fn find(links: &Links, ledger: &[u8], used: usize, tag: Tag, port: u8) -> Option<usize>
+    requires { Known links.now ledger.now used }
     ensures { (result ≡ first_from (stands_at tag port) 0 (tokens used ledger.now)) × FoundWithin result used }
 {
-    store_chains::find(&store.links, ledger, used, tag, port)
+    store_chains::find(links, ledger, used, tag, port)
 }
 
 // Where a token may arrive at a port of a tag, or `None` if one stands there already.
-pub fn seek(store: &Store, ledger: &[u8], used: usize, tag: Tag, port: u8) -> Option<Slot>
-    requires { Known store.now.links ledger.now used × (port < 2) }
+pub fn seek(links: &Links, ledger: &[u8], used: usize, tag: Tag, port: u8) -> Option<Slot>
+    requires { Known links.now ledger.now used × (port < 2) }
     ensures { SoughtAt result (tokens used ledger.now) tag port }
 {
-    store_chains::seek(&store.links, ledger, used, tag, port)
+    store_chains::seek(links, ledger, used, tag, port)
 }
 
 // The place of the partner of the token at a place.
-pub fn partner(store: &Store, place: usize) -> Option<usize>
+pub fn partner(links: &Links, place: usize) -> Option<usize>
     requires { place < 2048 }
-    ensures { result ≡ partner_at store.now.links place }
+    ensures { result ≡ partner_at links.now place }
 {
-    store_chains::partner(&store.links, place)
+    store_chains::partner(links, place)
 }
 
 // How many activities are enabled.
@@ -67,15 +67,15 @@ pub fn enabled_at(flags: &Flags, k: usize) -> usize
 // The place of the activity of a tag, if it is enabled.
 pub fn enabled_by_tag(
     tables: &Tables,
-    store: &Store,
+    links: &Links,
     ledger: &[u8],
     used: usize,
     tag: Tag,
 ) -> Option<usize>
-    requires { Known store.now.links ledger.now used }
+    requires { Known links.now ledger.now used }
     ensures { (result ≡ enabled_at tables.now (tokens used ledger.now) tag) × FoundWithin result used }
 {
-    store_enabled::enabled_by_tag(tables, store, ledger, used, tag)
+    store_enabled::enabled_by_tag(tables, links, ledger, used, tag)
 }
 
 // A token arrives in its slot: it becomes record `used`.
@@ -148,16 +148,16 @@ pub fn wake(tables: &Tables, store: &mut Store, ledger: &mut [u8], used: usize, 
     while let Some(i) = at {
         let t = Token::read(ledger, i);
         let u = woken(t, v);
-        store_enabled::change(tables, store, ledger, used, i, u);
+        store_enabled::change(tables, &store.links, &mut store.flags, ledger, used, i, u);
         at = store_chains::place_at(&store.links, i + store_chains::LATER);
     }
     store.links[head] = 0;
 }
 
 // Whether a token is deferred on a cell.
-pub fn any_deferred(store: &Store, cell: usize) -> bool
+pub fn any_deferred(links: &Links, cell: usize) -> bool
     requires { cell < 1024 }
-    ensures { (tables flags ledger : List ℕ) (used : ℕ) → Matching tables store.now.links flags ledger used → result ≡ Deferred.any_on cell (tokens used ledger) }
+    ensures { (tables flags ledger : List ℕ) (used : ℕ) → Matching tables links.now flags ledger used → result ≡ Deferred.any_on cell (tokens used ledger) }
 {
-    store_chains::place_at(&store.links, cell + store_chains::WAITING).is_some()
+    store_chains::place_at(links, cell + store_chains::WAITING).is_some()
 }

@@ -94,7 +94,8 @@ fn ready_with(
 // known, so only the partner is looked up.
 // The caller lends the ledger's bytes, so the number of its tokens goes beside them.
 fn settle_changed(
-    store: &mut Store,
+    flags: &mut Flags,
+    links: &Links,
     ledger: &[u8],
     used: usize,
     own: usize,
@@ -102,17 +103,16 @@ fn settle_changed(
     port: u8,
     operands: u16,
 )
-    requires { Known store.old.links ledger.now used × (own < used) × (port < 2) × (first_from (stands_at tag port) 0 (tokens used ledger.now) ≡ Some own) }
-    ensures links_kept { store.new.links ≡ store.old.links }
-    ensures flags_after { store.new.flags
-        ≡ raised_if (operands_live operands (tokens used ledger.now) tag) store.old.flags
+    requires { Known links.now ledger.now used × (own < used) × (port < 2) × (first_from (stands_at tag port) 0 (tokens used ledger.now) ≡ Some own) }
+    ensures flags_after { flags.new
+        ≡ raised_if (operands_live operands (tokens used ledger.now) tag) flags.old
         (earliest_of (tokens used ledger.now) tag) }
 {
-    let other = store_chains::partner(&store.links, own);
+    let other = store_chains::partner(links, own);
     if ready_with(ledger, port, Some(own), other, operands) {
         let place = own.min(other.unwrap_or(own));
-        if !store.flags.is_raised(place) {
-            store.flags.raise(place);
+        if !flags.is_raised(place) {
+            flags.raise(place);
         }
     }
 }
@@ -212,16 +212,16 @@ pub fn arity(tables: &[u16], tag: Tag) -> u16
 // The place of the activity of a tag, if it is enabled: its operands are found by their ports.
 pub fn enabled_by_tag(
     tables: &Tables,
-    store: &Store,
+    links: &Links,
     ledger: &[u8],
     used: usize,
     tag: Tag,
 ) -> Option<usize>
-    requires { Known store.now.links ledger.now used }
+    requires { Known links.now ledger.now used }
     ensures { (result ≡ enabled_at tables.now (tokens used ledger.now) tag) × FoundWithin result used }
 {
-    let first = store_chains::find(&store.links, ledger, used, tag, 0);
-    let second = store_chains::find(&store.links, ledger, used, tag, 1);
+    let first = store_chains::find(links, ledger, used, tag, 0);
+    let second = store_chains::find(links, ledger, used, tag, 1);
     if ready(ledger, first, second, arity(tables, tag)) {
         Some(first.unwrap_or(used).min(second.unwrap_or(used)))
     } else {
@@ -288,26 +288,26 @@ pub fn enter(tables: &Tables, store: &mut Store, ledger: &[u8], used: usize, t: 
 // Puts t, of the same tag and port, in the place of token i. What was live stays so, and so does a flag that was raised.
 pub fn change(
     tables: &Tables,
-    store: &mut Store,
+    links: &Links,
+    flags: &mut Flags,
     ledger: &mut [u8],
     used: usize,
     i: usize,
     t: Token,
 )
-    requires { Stored tables.now store.old.links store.old.flags ledger.old used
+    requires { Stored tables.now links.now flags.old ledger.old used
         × (i < used)
         × (t.tag ≡ (token_at ledger.old i).tag)
         × (t.port ≡ (token_at ledger.old i).port)
         × (is_live_record (token_at ledger.old i).content ≡ true → is_live_record t.content ≡ true) }
     ensures ledger_after { ledger.new ≡ put_row token_width ledger.old i (encode_token t) }
     ensures ledger_after_2 { tokens used ledger.new ≡ set (tokens used ledger.old) i t }
-    ensures links_kept { store.new.links ≡ store.old.links }
-    ensures stored { Stored tables.now store.new.links store.new.flags ledger.new used }
+    ensures stored { Stored tables.now links.now flags.new ledger.new used }
 {
     let tag = t.tag;
     t.write(ledger, i);
     let operands = arity(tables, tag);
-    settle_changed(store, ledger, used, i, tag, t.port, operands);
+    settle_changed(flags, links, ledger, used, i, tag, t.port, operands);
 }
 
 // Spends the operands of an enabled activity, which stand at its place and at another; where one is waited for, both are its place. The

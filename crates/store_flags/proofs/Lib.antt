@@ -1,4 +1,5 @@
 -- The laws of the flags of the enabled activities. Assumes nothing.
+pub mod Back
 pub mod Blocks
 pub mod Digits
 pub mod Laws

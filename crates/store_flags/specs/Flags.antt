@@ -2,7 +2,7 @@
 -- Flags of 0 or 1 in a list: how many are 1 and at which places they stand. And how they are kept, in 69 words: 64 in a word,
 -- then a word that says which words have any, then the counts by blocks of 64 and by groups of 512.
 -- Assumes nothing.
-use Rattle.std.specs.Prelude.{ℕ, zero, suc, ◌+◌, ◌-◌, ◌/◌, ◌%◌, ◌≤◌, ◌<◌, ◌≡◌, cond, List, [], ◌∷◌, ◌++◌, map, length, get_or, take, drop, replicate, ltb}
+use Rattle.std.specs.Prelude.{ℕ, zero, suc, ◌+◌, ◌-◌, ◌*◌, ◌/◌, ◌%◌, ◌≤◌, ◌<◌, ◌≡◌, cond, List, [], ◌∷◌, ◌++◌, map, length, get_or, take, drop, replicate, ltb}
 
 -- the places of the ones, in order, where the list's first has place i
 abbrev pub places_from : ℕ → List ℕ → List ℕ
@@ -93,3 +93,19 @@ pub record Summed (ws : List ℕ) : Type 0 where
 pub record Counted (ws : List ℕ) : Type 0 where
   pub summed : Summed ws
   pub tallied : Tallied (flags_of ws) (drop 33 ws)
+
+-- ---- the words that keep given flags
+
+-- the number of which the list has the binary digits, the lowest first
+abbrev pub number_of : List ℕ → ℕ
+number_of [] = 0
+number_of (x ∷ l) = x + 2 * number_of l
+
+-- n words, each of 64 of the flags
+abbrev pub words_for : ℕ → List ℕ → List ℕ
+words_for zero l = []
+words_for (suc n) l = number_of (take 64 l) ∷ words_for n (drop 64 l)
+
+-- the 69 words of 2,048 flags: nothing else meets the invariant and has these flags
+unfoldable pub words_of : List ℕ → List ℕ
+words_of l = words_for 32 l ++ (number_of (map any_set (words_for 32 l)) ∷ (blocks 64 32 l ++ blocks 512 4 l))

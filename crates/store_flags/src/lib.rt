@@ -19,21 +19,23 @@ const COUNTS: usize = 33;
 
 const GROUPS: usize = 65;
 
-// Clauses see the list of the 2,048 flags, each 0 or 1.
-#[derive(Drop)]
+// Clauses see the list of the 2,048 flags, each 0 or 1, which fixes the words, so the type is Copy.
+#[derive(Clone, Copy)]
 pub struct Flags {
     words: [u64; LENGTH],
 }
 
 impl Model for Flags {
-    ghost use Rattle.std.specs.Prelude.{List, ℕ};
-    ghost use Rattle.store_flags.specs.Flags.{flags_of, Counted};
+    ghost use Rattle.std.specs.Prelude.{◌≡◌, List, ℕ};
+    ghost use Rattle.store_flags.specs.Flags.{flags_of, words_of, Counted};
 
     ghost Value = { List ℕ };
 
     ghost view = { λ f. flags_of f.words };
 
-    ghost invariant = { λ f. Counted f.words };
+    ghost invariant = { λ f. Counted f.words × (words_of (flags_of f.words) ≡ f.words) };
+
+    ghost inverse = { λ l. record { words = words_of l } };
 }
 
 // ---- one word

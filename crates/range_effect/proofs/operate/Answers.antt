@@ -2,7 +2,6 @@
 use Prim.Native.Nat.{ℕ}
 use mathlib.Core.Path.{◌≡◌, refl}
 use mathlib.Core.List.{List}
-use mathlib.Core.Logic.{◌⊎◌, inl, inr}
 use lib.IntN.{ℤ}
 use mir.Syntax.{w32}
 use mir.Val.{SFits}
@@ -17,35 +16,44 @@ use Rattle.arithmetic.specs.Ranges.{is_single}
 use Rattle.rules.specs.RangeHandles.{meaning}
 use Rattle.abstraction.specs.Tables.{arrays_in}
 use Rattle.fire_effect.specs.Effects.{operated_of}
-use Rattle.range_effect.specs.Asked.{as_is_ask, only_if, ask_of}
+use Rattle.range_effect.specs.Asked.{as_is_ask, only_if, operand_of, ask_of}
+use Rattle.rules.specs.RangeSet.{is_undecided}
+use Rattle.rules.specs.declared.answer.Refusal.{Refusal}
+use Rattle.rules.specs.declared.answer.Refusal.TheVariants as Refusals
+use Rattle.fire_effect.specs.declared.operate.Action.{Action}
+use Rattle.std.specs.Prelude.{Some, None, Result, Ok, Err, ok_or}
+use Rattle.std.proofs.lemmas.Result.{err_from_is_err_and}
+use mathlib.Core.Bool.{Bool, true, false, not, cond}
 use Rattle.range_effect.proofs.Laws.{asks_as_is}
 use Rattle.range_effect.proofs.operate.Goals as goal
 
--- an operation that none of the other arms names is the plain one
-plain : (o : Operation) (table : List NamedArray) (k : ℤ) (cells : ℕ) (t : List Range) (a b : ℤ) → (o ≡ Operations.Const → ⊥) → (o ≡ Operations.Switch → ⊥) → (o ≡ Operations.Fetch → ⊥) → (o ≡ Operations.Store → ⊥)
-    → ((p : Arithmetic) → o ≡ Operations.OnTwo p → ⊥) → ((p : Arithmetic) → o ≡ Operations.OnConstant p → ⊥) → ask_of o table k cells t a b ≡ as_is_ask (operated_of o table k cells a b)
-unfolding ask_of
-plain Operations.Copy table k cells t a b const switch fetch store two one = refl
-plain Operations.Sink table k cells t a b const switch fetch store two one = refl
-plain Operations.Out table k cells t a b const switch fetch store two one = refl
-plain Operations.Const table k cells t a b const switch fetch store two one = absurd (const refl)
-plain Operations.Switch table k cells t a b const switch fetch store two one = absurd (switch refl)
-plain Operations.Gate table k cells t a b const switch fetch store two one = refl
-plain Operations.Next table k cells t a b const switch fetch store two one = refl
-plain Operations.Enter table k cells t a b const switch fetch store two one = refl
-plain Operations.Leave table k cells t a b const switch fetch store two one = refl
-plain Operations.Fetch table k cells t a b const switch fetch store two one = absurd (fetch refl)
-plain Operations.Store table k cells t a b const switch fetch store two one = absurd (store refl)
-plain (Operations.OnTwo o) table k cells t a b const switch fetch store two one = absurd (two o refl)
-plain (Operations.OnConstant o) table k cells t a b const switch fetch store two one = absurd (one o refl)
-plain Operations.Unknown table k cells t a b const switch fetch store two one = refl
+-- what is asked of an operand, if there is no refusal before
+abbrev asked_of : Result ℤ Refusal → (ℤ → Result Action Refusal) → Result Action Refusal
+asked_of (Ok v) f = f v
+asked_of (Err r) f = Err r
 
--- FETCH and STORE ask for one cell
-of_one_cell : (o : Operation) (table : List NamedArray) (k : ℤ) (cells : ℕ) (t : List Range) (a b : ℤ) → (o ≡ Operations.Fetch) ⊎ (o ≡ Operations.Store)
-    → ask_of o table k cells t a b ≡ as_is_ask (only_if (is_single (meaning t a)) (operated_of o table k cells (meaning t a).low b))
-unfolding ask_of
-of_one_cell o table k cells t a b (inl e) = rw e refl
-of_one_cell o table k cells t a b (inr e) = rw e refl
+chosen : (b : Bool) (v : ℤ) (f : ℤ → Result Action Refusal) → as_is_ask (only_if b (f v)) ≡ as_is_ask (asked_of (ok_or (cond b (Some v) None) Refusals.Undecided) f)
+chosen true v f = refl
+chosen false v f = refl
+
+-- an operation that makes no range is the plain one, with the operand that decides it decided
+plain : (o : Operation) (table : List NamedArray) (k : ℤ) (cells : ℕ) (t : List Range) (a b : ℤ) → (o ≡ Operations.Const → ⊥) → ((p : Arithmetic) → o ≡ Operations.OnTwo p → ⊥) → ((p : Arithmetic) → o ≡ Operations.OnConstant p → ⊥)
+    → ask_of o table k cells t a b ≡ as_is_ask (asked_of (ok_or (operand_of o (meaning t a) (meaning t b) a) Refusals.Undecided) (λ v. operated_of o table k cells v b))
+unfolding ask_of operand_of
+plain Operations.Copy table k cells t a b const two one = refl
+plain Operations.Sink table k cells t a b const two one = refl
+plain Operations.Out table k cells t a b const two one = refl
+plain Operations.Const table k cells t a b const two one = absurd (const refl)
+plain Operations.Switch table k cells t a b const two one = chosen (not (is_undecided (meaning t b))) a (λ v. operated_of Operations.Switch table k cells v b)
+plain Operations.Gate table k cells t a b const two one = refl
+plain Operations.Next table k cells t a b const two one = refl
+plain Operations.Enter table k cells t a b const two one = refl
+plain Operations.Leave table k cells t a b const two one = refl
+plain Operations.Fetch table k cells t a b const two one = chosen (is_single (meaning t a)) (meaning t a).low (λ v. operated_of Operations.Fetch table k cells v b)
+plain Operations.Store table k cells t a b const two one = chosen (is_single (meaning t a)) (meaning t a).low (λ v. operated_of Operations.Store table k cells v b)
+plain (Operations.OnTwo o) table k cells t a b const two one = absurd (two o refl)
+plain (Operations.OnConstant o) table k cells t a b const two one = absurd (one o refl)
+plain Operations.Unknown table k cells t a b const two one = refl
 
 pub returns-in-Const : goal.returns-in-Const
 unfolding ask_of
@@ -62,27 +70,18 @@ unfolding ask_of
 returns-in-OnConstant c =
     rw c.in-OnConstant.is (rw (c.range-in-OnConstant.ensures, c.meaning-x.ensures, to_z-of_z c.ranges.a, to_z-of_z c.ranges.k) at c.anew-in-OnConstant.ensures)
 
-pub returns-in-Switch : goal.returns-in-Switch
-unfolding ask_of
-returns-in-Switch c =
-    rw (c.only_if.ensures, c.operate.ensures, to_z-of_z c.ranges.k, to_z-of_z c.ranges.a, to_z-of_z c.ranges.b, c.undecided.ensures, c.meaning-y.ensures, to_z-of_z c.ranges.b, c.in-Switch.is) (asks_as_is _ _)
-
-pub returns-in-Fetch : goal.returns-in-Fetch
-returns-in-Fetch c =
-    let low : SFits w32 c.meaning-x.result.low = search rules in
-    rw (
-      c.only_if-in-Fetch.ensures,
-      c.operate-in-Fetch.ensures,
-      to_z-of_z c.ranges.k,
-      to_z-of_z low,
-      to_z-of_z c.ranges.b,
-      c.is_single.ensures,
-      c.meaning-x.ensures,
-      to_z-of_z c.ranges.a,
-      of_one_cell c.args.o (arrays_in c.args.tables.now) c.args.k c.args.cells c.args.table.now c.args.a c.args.b c.in-Fetch.is,
-    ) (asks_as_is _ _)
-
-pub returns-in_default : goal.returns-in_default
-returns-in_default c =
+pub returns-in_err-a-in_default : goal.returns-in_err-a-in_default
+returns-in_err-a-in_default c =
+    let a = c.args in
     let x = c.in_default in
-    rw (c.operate-in_default.ensures, to_z-of_z c.ranges.k, to_z-of_z c.ranges.a, to_z-of_z c.ranges.b, plain c.args.o (arrays_in c.args.tables.now) c.args.k c.args.cells c.args.table.now c.args.a c.args.b x.not-Const x.not-Switch x.not-Fetch x.not-Store x.not-OnTwo x.not-OnConstant) (asks_as_is _ _)
+    let was = rw (c.ok_or.ensures.value, c.operand.ensures, c.meaning-x.ensures, to_z-of_z c.ranges.a, c.meaning-y.ensures, to_z-of_z c.ranges.b) at c.in_err-a-in_default.was in
+    let p = err_from_is_err_and c.from_residual.result c.from_residual.ensures.1 in
+    rw (p.1, p.2, plain a.o (arrays_in a.tables.now) a.k a.cells a.table.now a.a a.b x.not-Const x.not-OnTwo x.not-OnConstant, was) (asks_as_is _ _)
+
+pub returns-in_ok-a-in_default : goal.returns-in_ok-a-in_default
+returns-in_ok-a-in_default c =
+    let a = c.args in
+    let x = c.in_default in
+    let was = rw (c.ok_or.ensures.value, c.operand.ensures, c.meaning-x.ensures, to_z-of_z c.ranges.a, c.meaning-y.ensures, to_z-of_z c.ranges.b) at c.in_ok-a-in_default.was in
+    let v : SFits w32 c.in_ok-a-in_default.a = search rules in
+    rw (c.operate.ensures, to_z-of_z c.ranges.k, to_z-of_z c.ranges.b, to_z-of_z v, plain a.o (arrays_in a.tables.now) a.k a.cells a.table.now a.a a.b x.not-Const x.not-OnTwo x.not-OnConstant, was) (asks_as_is _ _)

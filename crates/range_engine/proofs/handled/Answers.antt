@@ -9,19 +9,19 @@ use Rattle.rules.specs.RangeRun.{first_ranges, ranges_unless_failed, range_answe
 use Rattle.range_engine.proofs.Writing.{accepted_handles, inputs_stand, ranges_few, only_handles}
 use Rattle.range_engine.proofs.handled.Goals as goal
 
-pub narrow-table-requires : goal.narrow-table-requires
+pub narrow-requires : goal.narrow-requires
 unfolding ranges_unless_failed range_answer range_ledger_after range_cells_after
-narrow-table-requires c = record { few = c.requires.0.few_inputs; records = omega (arith, c.requires.2) }
+narrow-requires c = record { few = c.requires.0.few_inputs; records = omega (arith, c.requires.2) }
 
 pub check-checked-requires : goal.check-checked-requires
 unfolding ranges_unless_failed range_answer range_ledger_after range_cells_after
-check-checked-requires c = only_handles _ _ _ _ c.requires.2 c.narrow-table.ensures
+check-checked-requires c = only_handles _ _ _ _ c.requires.2 c.narrow.ensures
 
 pub accepted-requires : goal.accepted-requires
 unfolding ranges_unless_failed range_answer range_ledger_after range_cells_after
 accepted-requires c =
     let a = c.args in
-    let w = c.narrow-table.ensures in
+    let w = c.narrow.ensures in
     let passed = sym c.check-checked.ensures ∙ c.in-Ok.is in
     (rw (only_handles _ _ _ _ c.requires.2 w) (accepted_handles a.graph.now a.arrays.now a.inputs.now (length a.ledger.now) (length a.cells.now) c.requires.0 passed), c.requires.1, rw (only_handles _ _ _ _ c.requires.2 w) (ranges_few a.graph.now a.arrays.now a.inputs.now (length a.ledger.now) (length a.cells.now) c.requires.0 passed _ w.ranges))
 
@@ -36,7 +36,7 @@ pub returns-in-Ok : goal.returns-in-Ok
 unfolding ranges_unless_failed range_answer range_ledger_after range_cells_after
 returns-in-Ok c =
     let a = c.args in
-    let w = c.narrow-table.ensures in
+    let w = c.narrow.ensures in
     let e = sym c.check-checked.ensures ∙ c.in-Ok.is in
     let n = length a.cells.now / range_cell_width in
     let stands = inputs_stand a.graph.now a.arrays.now a.inputs.now (length a.ledger.now) (length a.cells.now) c.requires.0 e _ w.ranges n in

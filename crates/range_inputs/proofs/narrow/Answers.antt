@@ -20,7 +20,7 @@ use Rattle.range_inputs.proofs.narrow.Goals as goal
 
 pub loop-i-init : goal.loop-i-init
 unfolding handles_from
-loop-i-init c = (omega arith, refl, refl, c.add.ensures.0 ∙ rw c.new-table.ensures refl)
+loop-i-init c = (omega arith, refl, refl, c.add.ensures.0 ∙ rw c.clear.ensures refl)
 
 pub add-handle-requires : goal.add-handle-requires
 add-handle-requires c = rw (c.loop-i.invariant.3) (omega (arith, length_rows range_token_width range_in c.loop-i.i c.args.inputs.now, c.requires.few))

@@ -7,4 +7,4 @@ use Rattle.store.proofs.any_deferred.Goals as goal
 
 pub returns : goal.returns
 returns c tables flags ledger used m =
-    c.is_some.ensures ∙ ap is_some c.place_at.ensures ∙ any_on_lem c.args.cell c.args.store.now.links _ (matching_deferred m) c.requires
+    c.is_some.ensures ∙ ap is_some c.place_at.ensures ∙ any_on_lem c.args.cell c.args.links.now _ (matching_deferred m) c.requires

@@ -63,7 +63,7 @@ loop-at-smaller c =
     let l = c.loop-at in
     let p = c.change in
     let step = stepped a.cell (to_z w32 (of_z w32 a.v)) a.tables.now a.store.now.links a.store.now.flags a.ledger.now a.used c.requires.0 c.requires.1 l.store.flags l.ledger c.in-Some.i (rw c.in-Some.is at l.invariant.1) c.read-t.result c.read-t.ensures c.woken-u.result c.woken-u.ensures
-    p.new.store.flags p.new.ledger (omega (arith, p.auto.ledger)) p.ensures.ledger_after p.ensures.ledger_after_2 (rw (p.ensures.links_kept, l.invariant.0) at p.ensures.stored) _ (rw (p.ensures.links_kept, l.invariant.0) at c.place_at-at-in-Some.ensures) in
+    p.new.flags p.new.ledger (omega (arith, p.auto.ledger)) p.ensures.ledger_after p.ensures.ledger_after_2 (rw l.invariant.0 at p.ensures.stored) _ (rw l.invariant.0 at c.place_at-at-in-Some.ensures) in
     rw c.in-Some.is step.0
 
 pub loop-at-preserved : goal.loop-at-preserved
@@ -72,8 +72,8 @@ loop-at-preserved c =
     let l = c.loop-at in
     let p = c.change in
     let step = stepped a.cell (to_z w32 (of_z w32 a.v)) a.tables.now a.store.now.links a.store.now.flags a.ledger.now a.used c.requires.0 c.requires.1 l.store.flags l.ledger c.in-Some.i (rw c.in-Some.is at l.invariant.1) c.read-t.result c.read-t.ensures c.woken-u.result c.woken-u.ensures
-    p.new.store.flags p.new.ledger (omega (arith, p.auto.ledger)) p.ensures.ledger_after p.ensures.ledger_after_2 (rw (p.ensures.links_kept, l.invariant.0) at p.ensures.stored) _ (rw (p.ensures.links_kept, l.invariant.0) at c.place_at-at-in-Some.ensures) in
-    (p.ensures.links_kept ∙ l.invariant.0, step.1)
+    p.new.flags p.new.ledger (omega (arith, p.auto.ledger)) p.ensures.ledger_after p.ensures.ledger_after_2 (rw l.invariant.0 at p.ensures.stored) _ (rw l.invariant.0 at c.place_at-at-in-Some.ensures) in
+    (l.invariant.0, step.1)
 
 pub shape_of-ledger : goal.shape_of-ledger
 shape_of-ledger c = omega (arith, c.loop-at.invariant.1.size)

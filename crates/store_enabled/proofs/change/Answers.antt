@@ -23,8 +23,8 @@ settle_changed-requires c =
     let size : length (tokens a.used l) ≡ a.used = length_rows token_width decode_token a.used l in
     let p = c.write in
     let same : length p.new.buf ≡ length l = omega (arith, p.auto.buf) in
-    let e : Moved a.tables.now a.store.now.links a.store.now.flags p.new.buf a.used a.i (set (tokens a.used l) a.i a.t) a.t =
-    changed a.tables.now a.store.now.links a.store.now.flags l a.used a.i a.t c.requires.0 c.requires.1 c.requires.2 c.requires.3 p.ensures.1 p.new.buf p.ensures.0 same in
+    let e : Moved a.tables.now a.links.now a.flags.now p.new.buf a.used a.i (set (tokens a.used l) a.i a.t) a.t =
+    changed a.tables.now a.links.now a.flags.now l a.used a.i a.t c.requires.0 c.requires.1 c.requires.2 c.requires.3 p.ensures.1 p.new.buf p.ensures.0 same in
     let low : a.t.port < 2 = rw (c.requires.3, ← before) (all_at (λ (t : Token). t.port < 2) (tokens a.used l) a.i (token_at l a.i) (omega (arith, size, c.requires.1)) c.requires.0.known.ports) in
     (e.known, c.requires.1, low, e.own)
 
@@ -36,11 +36,11 @@ returns c =
     let size : length (tokens a.used l) ≡ a.used = length_rows token_width decode_token a.used l in
     let p = c.write in
     let same : length p.new.buf ≡ length l = omega (arith, p.auto.buf) in
-    let e : Moved a.tables.now a.store.now.links a.store.now.flags p.new.buf a.used a.i (set (tokens a.used l) a.i a.t) a.t =
-    changed a.tables.now a.store.now.links a.store.now.flags l a.used a.i a.t c.requires.0 c.requires.1 c.requires.2 c.requires.3 p.ensures.1 p.new.buf p.ensures.0 same in
+    let e : Moved a.tables.now a.links.now a.flags.now p.new.buf a.used a.i (set (tokens a.used l) a.i a.t) a.t =
+    changed a.tables.now a.links.now a.flags.now l a.used a.i a.t c.requires.0 c.requires.1 c.requires.2 c.requires.3 p.ensures.1 p.new.buf p.ensures.0 same in
     let ts = tokens a.used l in
     let us = set ts a.i a.t in
-    let still = right_still a.tables.now ts a.i a.t (token_at l a.i) a.store.now.flags (omega (arith, size, c.requires.1)) (rw before c.requires.2) (rw before c.requires.3) (rw before c.requires.4) c.requires.0.right in
-    let once = raised_only (is_enabled a.tables.now us a.t.tag) a.store.now.flags (earliest_of us a.t.tag) still in
+    let still = right_still a.tables.now ts a.i a.t (token_at l a.i) a.flags.now (omega (arith, size, c.requires.1)) (rw before c.requires.2) (rw before c.requires.3) (rw before c.requires.4) c.requires.0.right in
+    let once = raised_only (is_enabled a.tables.now us a.t.tag) a.flags.now (earliest_of us a.t.tag) still in
     let flags = c.settle_changed.ensures.flags_after ∙ rw (c.arity-operands.ensures, e.more) once in
-    record { ledger_after = p.ensures.0; ledger_after_2 = e.more; links_kept = c.settle_changed.ensures.links_kept; stored = rw c.settle_changed.ensures.links_kept (e.stored c.settle_changed.new.store.flags flags) }
+    record { ledger_after = p.ensures.0; ledger_after_2 = e.more; stored = e.stored c.settle_changed.new.flags flags }

@@ -15,14 +15,14 @@ word_of ws l b e h = rw (← e) h
 pub lowest-requires : goal.lowest-requires
 lowest-requires c =
     let b = c.first_word-b in
-    let word = word_of c.self.inside.words c.args.self.now b.result c.self.view_is (words_word c.self.invariant.summed b.result b.ensures.low) in
+    let word = word_of c.self.inside.words c.args.self.now b.result c.self.view_is (words_word c.self.invariant.0.summed b.result b.ensures.low) in
     word_positive (get_or c.self.inside.words b.result 0) (rw word at b.ensures.some)
 
 pub returns : goal.returns
 returns c =
     let b = c.first_word-b in
-    let word = word_of c.self.inside.words c.args.self.now b.result c.self.view_is (words_word c.self.invariant.summed b.result b.ensures.low) in
+    let word = word_of c.self.inside.words c.args.self.now b.result c.self.view_is (words_word c.self.invariant.0.summed b.result b.ensures.low) in
     record {
       value = ap (λ (x : ℕ). b.result * 64 + x) c.lowest.ensures.0 ∙ ap (λ (l : List ℕ). b.result * 64 + place 0 l) (sym word) ∙ sym b.ensures.first;
-      list = rw (← c.self.view_is) (flag_list c.self.invariant);
+      list = rw (← c.self.view_is) (flag_list c.self.invariant.0);
     }

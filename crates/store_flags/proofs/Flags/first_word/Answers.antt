@@ -13,18 +13,18 @@ some : (ws l : List ℕ) → flags_of ws ≡ l → 0 < ones l → 0 < ones (flag
 some ws l e h = rw e h
 
 pub lowest-requires : goal.lowest-requires
-lowest-requires c = (words_first c.self.invariant.summed (some c.self.inside.words c.args.self.now c.self.view_is c.requires)).0
+lowest-requires c = (words_first c.self.invariant.0.summed (some c.self.inside.words c.args.self.now c.self.view_is c.requires)).0
 
 pub returns : goal.returns
 returns c =
     let ws = c.self.inside.words in
     let b = c.lowest.result in
-    let f = words_first c.self.invariant.summed (some ws c.args.self.now c.self.view_is c.requires) in
+    let f = words_first c.self.invariant.0.summed (some ws c.args.self.now c.self.view_is c.requires) in
     let e = c.lowest.ensures.0 in
     let low : b < 32 = omega (arith, e, f.1) in
     let there : 0 < ones (in_word (get_or ws b 0)) = rw e f.2 in
     let at : place 0 (flags_of ws) ≡ b * 64 + place 0 (in_word (get_or ws b 0)) = rw e f.3 in
-    let word = words_word c.self.invariant.summed b low in
+    let word = words_word c.self.invariant.0.summed b low in
     rw (← c.self.view_is) record {
       low = low;
       some = rw word there;

@@ -10,6 +10,6 @@ use Rattle.store_flags.proofs.Flags.is_empty.Goals as goal
 pub returns : goal.returns
 returns c =
     rw (← c.self.view_is) record {
-      value = c.has_none.ensures ∙ words_empty c.self.invariant.summed ∙ ap (λ (x : ℕ). eqb x 0) (sym (ones_places 0 (flags_of c.self.inside.words) c.self.invariant.tallied.binary));
-      list = flag_list c.self.invariant;
+      value = c.has_none.ensures ∙ words_empty c.self.invariant.0.summed ∙ ap (λ (x : ℕ). eqb x 0) (sym (ones_places 0 (flags_of c.self.inside.words) c.self.invariant.0.tallied.binary));
+      list = flag_list c.self.invariant.0;
     }

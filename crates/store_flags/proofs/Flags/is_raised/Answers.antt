@@ -11,6 +11,6 @@ pub returns : goal.returns
 returns c =
     let i = c.args.i in
     rw (← c.self.view_is) record {
-      value = rw (sym (words_flag c.self.invariant.summed i c.requires) ∙ word_at (get_or c.self.inside.words (i / 64) 0) (i % 64) (omega arith));
-      list = flag_list c.self.invariant;
+      value = rw (sym (words_flag c.self.invariant.0.summed i c.requires) ∙ word_at (get_or c.self.inside.words (i / 64) 0) (i % 64) (omega arith));
+      list = flag_list c.self.invariant.0;
     }

@@ -3,4 +3,4 @@ use Rattle.store_flags.proofs.Words.{block_count, flag_list}
 use Rattle.store_flags.proofs.FlagsFlagWords.ones_in_word.Goals as goal
 
 pub returns : goal.returns
-returns c = rw (← c.self.view_is) record { value = block_count c.self.invariant c.args.b c.requires; list = flag_list c.self.invariant }
+returns c = rw (← c.self.view_is) record { value = block_count c.self.invariant.0 c.args.b c.requires; list = flag_list c.self.invariant.0 }
