@@ -55,7 +55,7 @@ fn ends_of(table: &RangeTable, content: Content) -> Ends
     }
 }
 
-// A plain record, and the high value at its end. Both lengths are the types': with that of a slice each record would be copied by a call.
+// A plain record, and the high value at its end. Both lengths are the types'.
 fn with_high<const P: usize, const N: usize>(plain: &[u8; P], high: u32) -> [u8; N]
     requires { P + 4 ≡ N }
     ensures { result ≡ (plain.now ++ bytes32 high) }

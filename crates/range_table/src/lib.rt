@@ -11,7 +11,7 @@ use std::marker::Model;
 // Room for a range of each token, one for the value 0, and one of a firing that is refused.
 pub const ROOM: usize = 2050;
 
-// As a constant: an array of structs that is made as the program runs is filled one by one, by a call each.
+// The ranges of a new table.
 const ZEROS: [Range; ROOM] = [Range { low: 0, high: 0 }; ROOM];
 
 // Clauses see the list of the ranges.
